@@ -4,14 +4,21 @@
 #![tactic(auto)]
 
 mod items;
+mod mem_sink;
+mod mem_source;
 mod memory;
 mod name;
+mod outside;
 mod place;
 mod refusal;
+mod schedule;
 
 pub use items::Items;
+pub use mem_sink::MemSink;
+pub use mem_source::MemSource;
 pub use memory::NoMemory;
 pub use name::Name;
+pub use outside::{Failed, LoadFault, Shelf, Sink, Source, StoreFault, write_all};
 pub use place::{Place, Word};
 pub use refusal::{
     LimitKind, NetRefusal, ProjRefusal, ResRefusal, SetRefusal, StimRefusal, TsmRefusal,
