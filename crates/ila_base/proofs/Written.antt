@@ -1,5 +1,5 @@
 -- What is known of a sink while a piece is written front by front.
-use Rattle.std.proofs.Common.{◌≡◌, ℕ, ◌+◌, ◌≤◌, List, ◌++◌, length, take, drop, Option, sym, subst, take-add}
+use Rattle.std.proofs.Common.{ℕ, ◌+◌, List, take, drop, Option, sym, subst, take-add}
 use Rattle.std.specs.Io.KnownBytes.{Appends, Keeps}
 use Rattle.std.proofs.KnownBytes.{Appends-trans, Appends-kept}
 use Rattle.ila_base.specs.Faults.{AppendsFront}

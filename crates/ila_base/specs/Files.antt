@@ -1,5 +1,5 @@
 -- The files of a shelf, as a list of pairs of name and bytes, and what a load and a store do to them.
-use Rattle.std.specs.Prelude.{◌≡◌, ◌≢◌, ℕ, ◌+◌, ◌<◌, ◌≤◌, List, [], ◌∷◌, length, ⊤, Option, Some, None, Result, Ok, Err, if◌then◌else◌}
+use Rattle.std.specs.Prelude.{◌≡◌, ◌≢◌, ℕ, ◌<◌, List, [], ◌∷◌, ◌++◌, map, length, ⊤, Option, Some, None, Result, Ok, Err, if◌then◌else◌}
 use Rattle.std.specs.Str.{bytes_eq}
 use Rattle.std.specs.Global.{Vec}
 use Rattle.ila_base.specs.declared.outside.LoadFault.{LoadFault}
@@ -9,10 +9,23 @@ use Rattle.ila_base.specs.declared.outside.LoadFault.TheVariants.{Failed, Missin
 abbrev pub File : Type 0
 File = List ℕ × List ℕ
 
--- the bytes of the file of this name, where there is one
+-- the files that a list of names and vectors of bytes stands for
+abbrev pub told : List (List ℕ × Vec ℕ) → List File
+told files = map (λ file. (file.0, file.1.items)) files
+
+-- the bytes of the file of this name, where there is one; of two with one name the first counts
 abbrev pub file_of : List File → List ℕ → Option (List ℕ)
 file_of [] name = None
 file_of (file ∷ files) name = if bytes_eq file.0 name then Some file.1 else file_of files name
+
+-- The files stand for a front without the name, a file of the name, and the rest.
+pub record IsSplit (files : List File) (name : List ℕ) (at : ℕ) : Type 0 where
+  pub front : List File
+  pub bytes : List ℕ
+  pub back : List File
+  pub whole : files ≡ front ++ (name, bytes) ∷ back
+  pub long : length front ≡ at
+  pub absent : file_of front name ≡ None
 
 -- The files are told, and there is one of this name with these bytes.
 abbrev pub Holds : Option (List File) → List ℕ → List ℕ → Type 0

@@ -4,6 +4,7 @@
 #![tactic(auto)]
 
 mod items;
+mod mem_shelf;
 mod mem_sink;
 mod mem_source;
 mod memory;
@@ -14,6 +15,7 @@ mod refusal;
 mod schedule;
 
 pub use items::Items;
+pub use mem_shelf::MemShelf;
 pub use mem_sink::MemSink;
 pub use mem_source::MemSource;
 pub use memory::NoMemory;

@@ -3,7 +3,10 @@ ghost use Rattle.std.specs.Io.{ReadsAtMost};
 ghost use Rattle.std.specs.Io.KnownBytes.{Appends, ReadConsumes, WriteAppends};
 ghost use Rattle.ila_base.specs.Faults.{Rose, AppendsFront};
 ghost use Rattle.ila_base.specs.Files.{File, TellsKnown, KeepsFiles, KeepsOthers, NowHolds};
+ghost use Rattle.ila_base.specs.declared.outside.LoadFault.TheVariants as load;
+ghost use Rattle.ila_base.specs.declared.outside.StoreFault.TheVariants as store;
 
+use crate::memory::NoMemory;
 use std::alloc::Global;
 use thiserror::Error;
 
@@ -73,6 +76,30 @@ pub enum StoreFault {
     /// Memory was not found.
     #[error("no memory")]
     NoMemory,
+}
+
+impl From<Failed> for LoadFault {
+    ghost from_gives = { λ _ fault. fault ≡ load.Failed };
+
+    fn from(_failed: Failed) -> LoadFault {
+        LoadFault::Failed
+    }
+}
+
+impl From<Failed> for StoreFault {
+    ghost from_gives = { λ _ fault. fault ≡ store.Failed };
+
+    fn from(_failed: Failed) -> StoreFault {
+        StoreFault::Failed
+    }
+}
+
+impl From<NoMemory> for StoreFault {
+    ghost from_gives = { λ _ fault. fault ≡ store.NoMemory };
+
+    fn from(_no_memory: NoMemory) -> StoreFault {
+        StoreFault::NoMemory
+    }
 }
 
 /// Where files are. It tells them as a list of pairs of name and bytes, where it tells at all, and

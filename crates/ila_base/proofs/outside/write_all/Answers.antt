@@ -1,4 +1,4 @@
-use Rattle.std.proofs.Common.{length, arith, length-drop}
+use Rattle.std.proofs.Common.{arith, length-drop}
 use Rattle.ila_base.proofs.Taken.{rest_whole}
 use Rattle.ila_base.proofs.Written.{front_grows}
 use Rattle.ila_base.proofs.outside.write_all.Goals as goal
