@@ -13,6 +13,8 @@ mod outside;
 mod place;
 mod refusal;
 mod schedule;
+#[cfg(test)]
+mod tests;
 
 pub use items::Items;
 pub use mem_shelf::MemShelf;
