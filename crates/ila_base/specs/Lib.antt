@@ -1,3 +1,4 @@
 pub mod Faults
+pub mod FaultLaws
 pub mod Files
 pub mod Fakes

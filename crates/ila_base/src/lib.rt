@@ -22,7 +22,7 @@ pub use mem_sink::MemSink;
 pub use mem_source::MemSource;
 pub use memory::NoMemory;
 pub use name::Name;
-pub use outside::{Failed, LoadFault, Shelf, Sink, Source, StoreFault, write_all};
+pub use outside::{Failed, LoadFault, Shelf, Sink, Source, StoreFault, write_all, write_pieces};
 pub use place::{Place, Word};
 pub use refusal::{
     LimitKind, NetRefusal, ProjRefusal, ResRefusal, SetRefusal, StimRefusal, TsmRefusal,

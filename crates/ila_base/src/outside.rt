@@ -1,7 +1,8 @@
 ghost use Rattle.std.specs.Prelude.{◌≡◌, ℕ, ◌+◌, ◌<◌, ◌≤◌, List, length, Option, OnOk, OnErr, IfOk, Err, vec_len};
+ghost use Rattle.std.specs.List.{flat_map};
 ghost use Rattle.std.specs.Io.{ReadsAtMost};
-ghost use Rattle.std.specs.Io.KnownBytes.{Appends, ReadConsumes, WriteAppends};
-ghost use Rattle.ila_base.specs.Faults.{Rose, AppendsFront};
+ghost use Rattle.std.specs.Io.KnownBytes.{ReadConsumes, WriteAppends};
+ghost use Rattle.ila_base.specs.Faults.{Rose, Writes};
 ghost use Rattle.ila_base.specs.Files.{File, TellsKnown, KeepsFiles, KeepsOthers, NowHolds};
 ghost use Rattle.ila_base.specs.declared.outside.LoadFault.TheVariants as load;
 ghost use Rattle.ila_base.specs.declared.outside.StoreFault.TheVariants as store;
@@ -132,14 +133,26 @@ pub trait Shelf {
 /// Writes all bytes to the sink, in as many pieces as it takes. It takes no memory. After a refusal
 /// a front of the bytes was written.
 pub fn write_all<K: Sink>(sink: &mut K, bytes: &[u8]) -> Result<(), Failed>
-    ensures ok { OnOk result (Appends (K.written sink.old) (K.written sink.new) bytes.now) }
-    ensures err { OnErr result (AppendsFront (K.written sink.old) (K.written sink.new) bytes.now) }
+    ensures bytes { Writes (K.written sink.old) (K.written sink.new) result bytes.now }
     ensures later { K.faults sink.old ≤ K.faults sink.new }
     ensures cause { OnErr result (Rose (K.faults sink.old) (K.faults sink.new)) }
 {
     let mut at = 0;
     while at < bytes.len() {
         at += sink.write(&bytes[at..])?;
+    }
+    Ok(())
+}
+
+/// Writes the bytes of the pieces to the sink, one piece after the other. It takes no memory. After
+/// a refusal a front of these bytes was written.
+pub fn write_pieces<K: Sink>(sink: &mut K, pieces: &[&[u8]]) -> Result<(), Failed>
+    ensures bytes { Writes (K.written sink.old) (K.written sink.new) result (flat_map (λ piece. piece.now) pieces.now) }
+    ensures later { K.faults sink.old ≤ K.faults sink.new }
+    ensures cause { OnErr result (Rose (K.faults sink.old) (K.faults sink.new)) }
+{
+    for piece in pieces {
+        write_all(sink, piece)?;
     }
     Ok(())
 }
