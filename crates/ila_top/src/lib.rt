@@ -2,6 +2,7 @@
 //! and the error sink go in, and a status with its cause comes out.
 #![tactic(auto)]
 
+mod code;
 mod line;
 mod status;
 
