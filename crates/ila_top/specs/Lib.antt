@@ -1,1 +1,2 @@
 pub mod ErrorLine
+pub mod FirstForm

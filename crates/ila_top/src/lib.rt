@@ -3,6 +3,7 @@
 #![tactic(auto)]
 
 mod code;
+mod first;
 mod line;
 mod status;
 

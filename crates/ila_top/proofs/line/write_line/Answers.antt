@@ -30,13 +30,13 @@ returns-in_err-write_names-clause-bytes g c =
     let details : List ℕ = details_text c.args.details.now in
     let names : List ℕ = flat_map spaced c.args.names.now ++ 10 ∷ [] in
     rw p.1 (subst P (append_assoc code details names ∙ line_parts c.args.code.now c.args.details.now c.args.names.now)
-      (front_of _ _ _ (code ++ details) _ (10 ∷ []) (Appends-trans _ _ _ code details c.in_ok-write_pieces.ensures.bytes c.in_ok-write_details.ensures.bytes)
-        c.in_err-write_names.ensures.bytes))
+    (front_of _ _ _ (code ++ details) _ (10 ∷ []) (Appends-trans _ _ _ code details c.in_ok-write_pieces.ensures.bytes c.in_ok-write_details.ensures.bytes)
+    c.in_err-write_names.ensures.bytes))
 
 pub returns-clause-bytes : goal.returns-clause-bytes
 returns-clause-bytes g c =
     let P : List ℕ → Type 0 = λ bytes. Writes (g.E.Sink.written c.args.errors.now) (g.E.Sink.written c.write_all.new.sink) c.write_all.result bytes in
     subst P (line_parts c.args.code.now c.args.details.now c.args.names.now)
-      (writes_after _ _ _ c.write_all.result _ _ c.in_ok-write_pieces.ensures.bytes
-        (writes_after _ _ _ c.write_all.result _ _ c.in_ok-write_details.ensures.bytes
-          (writes_after _ _ _ c.write_all.result _ _ c.in_ok-write_names.ensures.bytes c.write_all.ensures.bytes)))
+    (writes_after _ _ _ c.write_all.result _ _ c.in_ok-write_pieces.ensures.bytes
+    (writes_after _ _ _ c.write_all.result _ _ c.in_ok-write_details.ensures.bytes
+    (writes_after _ _ _ c.write_all.result _ _ c.in_ok-write_names.ensures.bytes c.write_all.ensures.bytes)))
