@@ -22,17 +22,22 @@ run_is_word xs some =
       omega (arith, length-prefix_len is_word_byte xs),
       front_passes is_word_byte xs,
       λ more.
-        let within : n < length xs = omega (arith, length-drop n xs) in
-        ap is_word_byte (get_or-drop n xs 0 0 ∙ ap (λ k. get_or xs k 0) (add-zero n)) ∙ prefix_len_stops is_word_byte xs 0 within
+          let within : n < length xs = omega (arith, length-drop n xs) in
+          ap is_word_byte (get_or-drop n xs 0 0 ∙ ap (λ k. get_or xs k 0) (add-zero n)) ∙ prefix_len_stops is_word_byte xs 0 within,
     )
 
 -- White space in front changes no words.
 pub spelled_after_blanks : (front rest : List ℕ) (words : List (List ℕ)) → AllPass is_blank front → IsSpelled rest words
     → IsSpelled (front ++ rest) words
 spelled_after_blanks front rest [] blank more = All-append (λ b. is_blank b ≡ true) front rest blank more
-spelled_after_blanks front rest (word ∷ words) blank (blanks, after, cut, between, is, later) =
-    (front ++ blanks, after, ap (λ xs. front ++ xs) cut ∙ sym (append_assoc front blanks (word ++ after)),
-      All-append (λ b. is_blank b ≡ true) front blanks blank between, is, later)
+spelled_after_blanks front rest (word ∷ words) blank (blanks, after, cut, between, is, later) = (
+  front ++ blanks,
+  after,
+  ap (λ xs. front ++ xs) cut ∙ sym (append_assoc front blanks (word ++ after)),
+  All-append (λ b. is_blank b ≡ true) front blanks blank between,
+  is,
+  later,
+)
 
 -- The blanks at the front and the word behind them are taken off.
 pub spelled_step : (text word : List ℕ) (words : List (List ℕ)) (n : ℕ) →
@@ -43,9 +48,14 @@ spelled_step text word words n is same later =
     let after : List ℕ = drop m text in
     let P : List ℕ → Type 0 = λ xs. IsSpelled xs (word ∷ words) in
     let W : List ℕ → Type 0 = λ w. IsWord w (drop n after) in
-    let here : IsSpelled after (word ∷ words) =
-        ([], drop n after, sym (take-append-drop n after) ∙ ap (λ w. w ++ drop n after) (sym same), (λ k d below. absurd (omega arith)),
-          subst W (sym same) is, later) in
+    let here : IsSpelled after (word ∷ words) = (
+      [],
+      drop n after,
+      sym (take-append-drop n after) ∙ ap (λ w. w ++ drop n after) (sym same),
+      (λ k d below. absurd (omega arith)),
+      subst W (sym same) is,
+      later,
+    ) in
     subst P (take-append-drop m text) (spelled_after_blanks (take m text) after (word ∷ words) (front_passes is_blank text) here)
 
 -- A text whose blanks at the front are all of it has no word.

@@ -36,18 +36,25 @@ IsSpelled text (word ∷ words) = (blanks : List ℕ) × (rest : List ℕ) × (t
 abbrev pub statements_of : List (List ℕ) → List (List (List ℕ))
 statements_of words = slice_split (λ word. bytes_eq word (codes ";")) words
 
--- the names that a statement declares as inputs
-abbrev pub declared_inputs : List (List ℕ) → List (List ℕ)
-declared_inputs [] = []
-declared_inputs (word ∷ words) = if bytes_eq word (codes "input") then filter (λ name. not (bytes_eq name (codes ","))) words else []
+-- the data inputs that a statement declares: the words behind `input`, but commas and the clock
+abbrev pub is_data : List ℕ → List ℕ → Bool
+is_data clock word = not (bytes_eq word (codes ",")) && not (bytes_eq word clock)
+
+abbrev pub data_inputs : List ℕ → List (List ℕ) → List (List ℕ)
+data_inputs clock [] = []
+data_inputs clock (word ∷ words) = if bytes_eq word (codes "input") then filter (is_data clock) words else []
+
+-- The parts are those of one module: the first begins with `module` and the module's name, and the
+-- last is `endmodule` (IEEE 1364-2005, 12.1).
+abbrev pub IsModule : List (List (List ℕ)) → List ℕ → List (List ℕ) → List (List (List ℕ)) → Type 0
+IsModule parts top ports statements = parts ≡ (codes "module" ∷ top ∷ ports) ∷ statements ++ (codes "endmodule" ∷ []) ∷ []
 
 -- The data inputs of the one module of a text: those that its statements declare, in text order, but
--- the clock. Its first statement begins with `module` and the module's name, and its last part is
--- `endmodule`.
+-- the clock.
 pub record DeclaresInputs (text top clock : List ℕ) (inputs : List (List ℕ)) : Type 0 where
   pub words : List (List ℕ)
   pub spelled : IsSpelled text words
   pub ports : List (List ℕ)
   pub statements : List (List (List ℕ))
-  pub parts : statements_of words ≡ (codes "module" ∷ top ∷ ports) ∷ statements ++ (codes "endmodule" ∷ []) ∷ []
-  pub all : inputs ≡ filter (λ name. not (bytes_eq name clock)) (flat_map declared_inputs statements)
+  pub parts : IsModule (statements_of words) top ports statements
+  pub all : inputs ≡ flat_map (data_inputs clock) statements

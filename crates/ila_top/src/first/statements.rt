@@ -10,5 +10,7 @@ use std::alloc::{AllocError, Global};
 pub fn statements<'a>(alloc: Global, words: &'a [Name]) -> Result<Vec<&'a [Name]>, AllocError>
     ensures { IfOk result (λ parts. map (λ part. part.now) parts.items ≡ form.statements_of words.now) }
 {
-    words.split(|word| word.bytes() == b";".as_slice()).collect(alloc)
+    words
+        .split(|word| word.bytes() == b";".as_slice())
+        .collect(alloc)
 }

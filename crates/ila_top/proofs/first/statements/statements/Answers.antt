@@ -6,4 +6,4 @@ use Rattle.ila_top.proofs.first.statements.statements.Goals as goal
 
 pub returns : goal.returns
 returns c = map_from_collect _ c.collect.ensures.ran (YieldsList-from_slice_split _ (λ word. bytes_eq word (codes ";")) c.args.words.now
-  c.split.ensures.rest c.split.ensures.done c.split.ensures.closure (λ x b q k. search rules))
+    c.split.ensures.rest c.split.ensures.done c.split.ensures.closure (λ x b q k. search rules))

@@ -13,8 +13,8 @@ pub returns-then-is_empty : goal.returns-then-is_empty
 returns-then-is_empty c =
     let rest : List ℕ = c.loop-rest.rest.now in
     let none : length (drop (prefix_len is_blank rest) rest) ≡ 0 =
-        ap (λ n. length (drop n rest)) (sym c.blank_len.ensures) ∙ ap length (sym c.split_at.ensures.back)
-        ∙ (Decides-eqb (length c.split_at.result.1.now) 0).0 (sym c.if-is_empty.ensures) in
+    ap (λ n. length (drop n rest)) (sym c.blank_len.ensures) ∙ ap length (sym c.split_at.ensures.back)
+    ∙ (Decides-eqb (length c.split_at.result.1.now) 0).0 (sym c.if-is_empty.ensures) in
     rw (sym (append-nil c.loop-rest.words.items)) (c.loop-rest.invariant [] (spelled_blank rest none))
 
 -- the word that was pushed, and what follows it, as parts of the rest
@@ -32,7 +32,7 @@ loop-rest-preserved c = λ more spelled.
     let later : IsSpelled (drop n after) more = subst Q (c.split_at-in-loop-rest.ensures.back ∙ ap (λ xs. drop n xs) is_after) spelled in
     let R : List (List ℕ) → Type 0 = λ words. IsSpelled c.args.text.now words in
     subst R (sym (append_assoc c.loop-rest.words.items (word ∷ []) more) ∙ ap (λ words. words ++ more) (sym c.in_ok-push.ensures.items))
-      (c.loop-rest.invariant (word ∷ more) (spelled_step rest word more n is is_word later))
+    (c.loop-rest.invariant (word ∷ more) (spelled_step rest word more n is is_word later))
 
 pub returns : goal.returns
 returns c =
