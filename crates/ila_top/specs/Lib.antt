@@ -1,2 +1,3 @@
 pub mod ErrorLine
 pub mod FirstForm
+pub mod Answers

@@ -3,8 +3,12 @@
 #![tactic(auto)]
 
 mod code;
+mod ending;
 mod first;
+mod form;
 mod line;
+mod load;
 mod status;
 
+pub use ending::{exit_code, report};
 pub use status::Status;
