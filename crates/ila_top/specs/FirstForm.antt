@@ -1,5 +1,5 @@
 -- A netlist's text as words, and the inputs that it declares.
-use Rattle.std.specs.Prelude.{◌≡◌, ℕ, ◌<◌, Bool, ◌&&◌, ◌||◌, not, ◌⊎◌, List, [], ◌∷◌, ◌++◌, map, filter, length, codes, ◌==◌, nat_le, slice_index, true, false, if◌then◌else◌}
+use Rattle.std.specs.Prelude.{◌≡◌, ◌≢◌, ℕ, ◌<◌, get_or, Bool, ◌&&◌, ◌||◌, not, ◌⊎◌, List, [], ◌∷◌, ◌++◌, map, filter, length, codes, ◌==◌, nat_le, slice_index, true, false, if◌then◌else◌}
 use Rattle.std.specs.List.{flat_map, AllPass, slice_split}
 use Rattle.std.specs.Str.{bytes_eq}
 
@@ -58,3 +58,7 @@ pub record DeclaresInputs (text top clock : List ℕ) (inputs : List (List ℕ))
   pub statements : List (List (List ℕ))
   pub parts : IsModule (statements_of words) top ports statements
   pub all : inputs ≡ flat_map (data_inputs clock) statements
+
+-- no name stands twice
+abbrev pub AllDiffer : List (List ℕ) → Type 0
+AllDiffer names = (j k : ℕ) → j < k → k < length names → get_or names j [] ≢ get_or names k []

@@ -4,6 +4,7 @@ pub mod inputs;
 pub mod keywords;
 pub mod logic;
 pub mod netlist;
+pub mod names;
 pub mod nets;
 pub mod simulate;
 pub mod statements;
