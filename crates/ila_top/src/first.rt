@@ -3,9 +3,10 @@
 pub mod inputs;
 pub mod keywords;
 pub mod logic;
-pub mod netlist;
 pub mod names;
+pub mod netlist;
 pub mod nets;
+pub mod outputs;
 pub mod simulate;
 pub mod statements;
 pub mod words;

@@ -2,8 +2,9 @@ ghost use Rattle.std.specs.Prelude.{◌≡◌, [], ◌∷◌, true, IfOk, IfSome
 ghost use Rattle.ila_top.specs.FirstForm.{DeclaresInputs, IsModule};
 
 use crate::first::inputs::data_inputs;
+use crate::first::keywords::is_cell;
 use crate::first::logic::{Function, Gate, Logic, Operand, Register};
-use crate::first::nets::{Declared, Nets, ReadStop};
+use crate::first::nets::{Declared, Nets, ReadStop, is_name};
 use crate::first::statements::statements;
 use crate::first::words::words;
 use ila_base::Name;
@@ -37,6 +38,9 @@ const MAX_NAME_BYTES: usize = 67_108_864;
 pub fn read(alloc: Global, text: &[u8], top: &[u8], clock: &[u8]) -> Result<Netlist, ReadStop>
     ensures { IfOk result (λ netlist. DeclaresInputs text.now top.now clock.now netlist.inputs.items) }
 {
+    if !is_name(top) || is_cell(top) {
+        return Err(ReadStop::Syntax);
+    }
     let Some(words) = words(alloc, text)? else {
         return Err(ReadStop::Syntax);
     };

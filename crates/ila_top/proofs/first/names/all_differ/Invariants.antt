@@ -8,5 +8,5 @@ use Rattle.ila_top.proofs.first.names.all_differ.Given as goal
 abbrev pub invariant-loop-name : goal.invariant-loop-name
 invariant-loop-name l = record {
   differ : (j k : ℕ) → j < k → k < l.name-index → get_or l.names j [] ≢ get_or l.names k [];
-  seen : (k : ℕ) (key : Bor (List ℕ)) → k < l.name-index → key.now ≡ get_or l.names k [] → IsSome (get bytes_cmp l.seen key)
+  seen : (k : ℕ) (key : Bor (List ℕ)) → k < l.name-index → key.now ≡ get_or l.names k [] → IsSome (get bytes_cmp l.seen key);
 }
