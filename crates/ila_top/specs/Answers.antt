@@ -12,6 +12,7 @@ use Rattle.ila_base.specs.declared.refusal.NetRefusal.TheVariants as net
 use Rattle.ila_base.specs.declared.refusal.StimRefusal.{StimRefusal}
 use Rattle.ila_base.specs.declared.refusal.StimRefusal.TheVariants as stim
 use Rattle.ila_top.specs.FirstForm.{DeclaresInputs}
+use Rattle.ila_top.specs.Rows.{RefusesIfTold, scalars}
 use Rattle.ila_top.specs.declared.status.Status.{Status}
 use Rattle.ila_top.specs.declared.status.Status.TheVariants.{Done, Usage, Netlist, Project, Tsm, Resource, Settings, Stimulus, NoFile, ShelfFault, ReadFault, WriteFault, NoMemory}
 
@@ -103,3 +104,61 @@ exit_code_of ReadFault = 9
 exit_code_of WriteFault = 10
 exit_code_of NoMemory = 11
 exit_code_of (NoFile _) = 12
+
+-- The netlist's file has these bytes, and not more than allowed, and they declare these data inputs.
+pub record IsRead (sim : SimWords) (before : Outside) (inputs : List (List ℕ)) : Type 0 where
+  pub bytes : List ℕ
+  pub held : HoldsIfTold before.files sim.netlist bytes
+  pub short : length bytes ≤ most_bytes
+  pub declares : DeclaresInputs bytes sim.top sim.clock inputs
+
+-- Why the netlist of `sim` is refused: its file is longer than allowed, or its text is not in the form
+-- that is read, at the text's first place.
+abbrev pub NetCause : SimWords → Outside → NetRefusal → Place → Type 0
+NetCause sim before (net.Limit limits.FileBytes count) place =
+    (count ≡ most_bytes + 1) × (place ≡ nowhere) × LongerIfTold before.files sim.netlist
+NetCause sim before net.Syntax place = (place ≡ at_start)
+    × ((bytes : List ℕ) × HoldsIfTold before.files sim.netlist bytes × (length bytes ≤ most_bytes))
+NetCause sim before _ place = ⊥
+
+-- Why `sim` with these words answers as it does.
+abbrev pub SimCause : SimWords → Outside → Outside → Status → Type 0
+SimCause sim before after Done = ((inputs : List (List ℕ)) × IsRead sim before inputs) × IsAtEnd after.left
+SimCause sim before after (Netlist refusal place) = NetCause sim before refusal place
+SimCause sim before after (Stimulus refusal) =
+    (inputs : List (List ℕ)) × IsRead sim before inputs × RefusesIfTold (scalars inputs) before.left refusal
+SimCause sim before after (NoFile name) = (name ≡ sim.netlist) × LacksIfTold before.files sim.netlist
+SimCause sim before after ShelfFault = Rose before.shelf_faults after.shelf_faults
+SimCause sim before after ReadFault = ((inputs : List (List ℕ)) × IsRead sim before inputs) × Rose before.read_faults after.read_faults
+SimCause sim before after WriteFault = ((inputs : List (List ℕ)) × IsRead sim before inputs) × Rose before.write_faults after.write_faults
+SimCause sim before after NoMemory = ⊤
+SimCause sim before after _ = ⊥
+
+-- Why a command answers as it does: Usage exactly where the words are of no command.
+abbrev pub Cause : List (List ℕ) → Outside → Outside → Status → Type 0
+Cause words before after Usage = sim_words words ≡ None
+Cause words before after status = (sim : SimWords) × (sim_words words ≡ Some sim) × SimCause sim before after status
+
+-- Nothing of the stimulus was read, and nothing written to the trace.
+abbrev pub IsUntouched : Outside → Outside → Type 0
+IsUntouched before after = Keeps before.left after.left × Keeps before.written after.written
+
+-- What stands of stimulus and trace after each answer: before the stimulus is begun both are as they
+-- were; where its header is refused, or memory isn't found, the trace is; else the trace has gained
+-- some bytes at its end.
+abbrev pub Leaves : Outside → Outside → Status → Type 0
+Leaves before after Usage = IsUntouched before after
+Leaves before after (Netlist _ _) = IsUntouched before after
+Leaves before after (NoFile _) = IsUntouched before after
+Leaves before after ShelfFault = IsUntouched before after
+Leaves before after (Stimulus stim.Header) = Keeps before.written after.written
+Leaves before after NoMemory = Keeps before.written after.written
+Leaves before after _ = (bytes : List ℕ) × Appends before.written after.written bytes
+
+-- what stands after each answer: all files, and no count has fallen
+pub record Stands (before after : Outside) (status : Status) : Type 0 where
+  pub files : KeepsFiles before.files after.files
+  pub shelf_faults : before.shelf_faults ≤ after.shelf_faults
+  pub read_faults : before.read_faults ≤ after.read_faults
+  pub write_faults : before.write_faults ≤ after.write_faults
+  pub streams : Leaves before after status

@@ -1,3 +1,4 @@
 pub mod ErrorLine
 pub mod FirstForm
+pub mod Rows
 pub mod Answers
