@@ -1,0 +1,8 @@
+//! Reads a stimulus: a header line that names the data inputs of a design, and for each clock a line
+//! with a hexadecimal word for each of them.
+#![tactic(auto)]
+
+mod inputs;
+mod row;
+
+pub use inputs::{DataInput, Field};
