@@ -1,1 +1,4 @@
 pub mod Bits
+pub mod Places
+pub mod Tails
+pub mod Rows

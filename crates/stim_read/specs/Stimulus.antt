@@ -1,6 +1,6 @@
 -- The text of a stimulus: a header line that names the inputs, and a line of hexadecimal words for
 -- each clock.
-use Rattle.std.specs.Prelude.{◌≡◌, ℕ, ◌+◌, ◌-◌, ◌*◌, ◌/◌, ◌%◌, ◌^◌, ◌<◌, ◌==◌, Bool, false, List, [], ◌∷◌, ◌++◌, map, length, take, drop, sum, count_by, slice_index, get_or, replicate, All, ⊤}
+use Rattle.std.specs.Prelude.{◌≡◌, ℕ, ◌+◌, ◌-◌, ◌*◌, ◌/◌, ◌%◌, ◌^◌, ◌<◌, ◌==◌, Bool, false, List, [], ◌∷◌, map, length, take, drop, sum, count_by, slice_index, get_or, replicate, All, ⊤}
 use Rattle.std.specs.Char.{digit_value}
 use Rattle.std.specs.List.{flat_map, join_with_byte}
 use Rattle.std.specs.Str.Lines.{lines}

@@ -1,6 +1,8 @@
-ghost use Rattle.std.specs.Prelude.{◌≡◌, ℕ, ◌+◌, ◌-◌, ◌*◌, ◌<◌, ◌≤◌, ◌↔◌, Bool, true, false, List, ◌++◌, length, take, drop, replicate, get_or, All, IsTrue, MatchOption};
+ghost use Rattle.std.specs.Prelude.{◌≡◌, ℕ, ◌+◌, ◌-◌, ◌*◌, ◌<◌, ◌≤◌, ◌↔◌, Bool, true, false, List, [], ◌∷◌, ◌++◌, length, take, drop, replicate, get_or, All, IsTrue, MatchOption};
 ghost use Rattle.std.specs.Char.{digit_value};
-ghost use Rattle.stim_read.specs.Stimulus.{digit_bit, word_bits, digits_of, padding_of, value_of, IsWord};
+ghost use Rattle.stim_read.specs.Stimulus.{space, digit_bit, word_bits, digits_of, padding_of, value_of, bits_at, IsWord, IsRow};
+ghost use Rattle.stim_read.specs.Words.{NoWord, TakesWord, IsTail, Apart, AllApart, AllFit};
+ghost use Rattle.stim_read.specs.declared.inputs.Field.{Field};
 
 use crate::inputs::Field;
 
@@ -68,4 +70,81 @@ fn put_value(word: &[u8], padding: usize, value: &mut [bool])
     for (at, bit) in value.iter_mut().enumerate() {
         *bit = bit_of_word(word, padding + at);
     }
+}
+
+// Whether the bytes, as many as the field has digits, are a word for it.
+fn is_word(field: Field, word: &[u8]) -> bool
+    requires { length word.now ≡ digits_of field.width }
+    ensures { IsTrue result ↔ IsWord field.width word.now }
+{
+    is_hexadecimal(word) && is_padded(word, field.padding())
+}
+
+// Takes a word for the field from the front of the text, and puts its value into the field's place.
+// It answers what follows the word.
+fn take_word<'a>(field: Field, text: &'a [u8], bits: &mut [bool]) -> Option<&'a [u8]>
+    requires { field.place + field.width ≤ length bits.old }
+    ensures word { MatchOption result (NoWord field.width text.now × (bits.new ≡ bits.old)) (λ rest. TakesWord field text.now rest.now bits.old bits.new) }
+    ensures long { length bits.new ≡ length bits.old }
+{
+    if text.len() < field.digits() {
+        return None;
+    }
+    let (word, rest) = text.split_at(field.digits());
+    if !is_word(field, word) {
+        return None;
+    }
+    let end = field.place + field.width as usize;
+    put_value(word, field.padding(), &mut bits[field.place..end]);
+    Some(rest)
+}
+
+// What follows a space at the front of the text.
+fn after_space(text: &[u8]) -> Option<&[u8]>
+    ensures { MatchOption result ((rest : List ℕ) → text.now ≡ space ∷ rest → ⊥) (λ rest. text.now ≡ space ∷ rest.now) }
+{
+    match text {
+        [b' ', rest @ ..] => Some(rest),
+        _ => None,
+    }
+}
+
+// Reads words for the fields, each behind a space, and puts their values into the fields' places.
+fn read_tail(fields: &[Field], text: &[u8], bits: &mut [bool]) -> bool
+    requires fit { AllFit fields.now (length bits.old) }
+    requires apart { AllApart fields.now }
+    ensures read { result ≡ true → IsTail fields.now text.now bits.new }
+    ensures refused { result ≡ false → (row : List Bool) → IsTail fields.now text.now row → ⊥ }
+    ensures kept { (other : Field) → All (Apart other) fields.now → bits_at other bits.new ≡ bits_at other bits.old }
+    ensures long { length bits.new ≡ length bits.old }
+{
+    let mut rest = text;
+    for field in fields {
+        let Some(spaced) = after_space(rest) else {
+            return false;
+        };
+        let Some(more) = take_word(*field, spaced, bits) else {
+            return false;
+        };
+        rest = more;
+    }
+    rest.is_empty()
+}
+
+/// Whether the line stands for a row, whose bits are then put into the slice. Else the slice's bits
+/// are any. It takes no memory.
+pub(crate) fn read_row(fields: &[Field], line: &[u8], bits: &mut [bool]) -> bool
+    requires fit { AllFit fields.now (length bits.old) }
+    requires apart { AllApart fields.now }
+    ensures read { result ≡ true → IsRow fields.now (length bits.old) line.now bits.new }
+    ensures refused { result ≡ false → (row : List Bool) → IsRow fields.now (length bits.old) line.now row → ⊥ }
+    ensures long { length bits.new ≡ length bits.old }
+{
+    let Some((first, others)) = fields.split_first() else {
+        return line.is_empty();
+    };
+    let Some(rest) = take_word(*first, line, bits) else {
+        return false;
+    };
+    read_tail(others, rest, bits)
 }
