@@ -2,3 +2,5 @@ pub mod Bits
 pub mod Places
 pub mod Tails
 pub mod Rows
+pub mod NumberLaws
+pub mod HeaderLaws

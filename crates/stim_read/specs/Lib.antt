@@ -1,2 +1,3 @@
 pub mod Stimulus
 pub mod Words
+pub mod Numbers

@@ -1,6 +1,6 @@
 -- The text of a stimulus: a header line that names the inputs, and a line of hexadecimal words for
 -- each clock.
-use Rattle.std.specs.Prelude.{◌≡◌, ℕ, ◌+◌, ◌-◌, ◌*◌, ◌/◌, ◌%◌, ◌^◌, ◌<◌, ◌==◌, Bool, false, List, [], ◌∷◌, map, length, take, drop, sum, count_by, slice_index, get_or, replicate, All, ⊤}
+use Rattle.std.specs.Prelude.{◌≡◌, ◌≢◌, ℕ, ◌+◌, ◌-◌, ◌*◌, ◌/◌, ◌%◌, ◌^◌, ◌<◌, ◌≤◌, ◌==◌, Bool, false, List, [], ◌∷◌, map, length, take, drop, sum, count_by, slice_index, get_or, replicate, All, ⊤}
 use Rattle.std.specs.Char.{digit_value}
 use Rattle.std.specs.List.{flat_map, join_with_byte}
 use Rattle.std.specs.Str.Lines.{lines}
@@ -16,9 +16,23 @@ pub record IsOrder (count : ℕ) (order : List ℕ) : Type 0 where
   pub within : All (λ k. k < count) order
   pub once : (k : ℕ) → k < count → count_by (λ j. j == k) order ≡ 1
 
+-- the names of inputs
+abbrev pub names_of : List DataInput → List (List ℕ)
+names_of inputs = map (λ input. input.name) inputs
+
+-- the widths of inputs
+abbrev pub widths_of : List DataInput → List ℕ
+widths_of inputs = map (λ input. input.width) inputs
+
 -- the name of the k-th input
 abbrev pub name_at : List (List ℕ) → ℕ → List ℕ
 name_at names k = get_or names k []
+
+-- Names of inputs: each has one or more bytes, all of them from 33 to 126, and no two are equal.
+pub record AreNames (names : List (List ℕ)) : Type 0 where
+  pub filled : All (λ name. 0 < length name) names
+  pub visible : All (λ name. All (λ byte. (33 ≤ byte) × (byte ≤ 126)) name) names
+  pub apart : (j k : ℕ) → j < k → k < length names → name_at names j ≢ name_at names k
 
 -- A header: the names of all inputs, each once, in some order, with one space between.
 pub record IsHeader (names : List (List ℕ)) (order : List ℕ) (line : List ℕ) : Type 0 where
@@ -89,14 +103,6 @@ AreRows fields size [] [] = ⊤
 AreRows fields size [] (row ∷ rows) = ⊥
 AreRows fields size (line ∷ lines) [] = ⊥
 AreRows fields size (line ∷ lines) (row ∷ rows) = IsRow fields size line row × AreRows fields size lines rows
-
--- the names of inputs
-abbrev pub names_of : List DataInput → List (List ℕ)
-names_of inputs = map (λ input. input.name) inputs
-
--- the widths of inputs
-abbrev pub widths_of : List DataInput → List ℕ
-widths_of inputs = map (λ input. input.width) inputs
 
 -- A text stands for rows of the inputs: its first line is a header, and each further line is a row,
 -- whose words stand in the header's order and whose bits stand in the order of the inputs.

@@ -2,6 +2,7 @@
 //! with a hexadecimal word for each of them.
 #![tactic(auto)]
 
+mod header;
 mod inputs;
 mod row;
 
