@@ -4,3 +4,4 @@ pub mod Tails
 pub mod Rows
 pub mod NumberLaws
 pub mod HeaderLaws
+pub mod Streams

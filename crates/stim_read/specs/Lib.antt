@@ -1,3 +1,4 @@
 pub mod Stimulus
 pub mod Words
 pub mod Numbers
+pub mod Streams

@@ -4,6 +4,7 @@
 
 mod header;
 mod inputs;
+mod line_reader;
 mod row;
 
 pub use inputs::{DataInput, Field};
