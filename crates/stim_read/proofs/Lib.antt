@@ -5,3 +5,4 @@ pub mod Rows
 pub mod NumberLaws
 pub mod HeaderLaws
 pub mod Streams
+pub mod Whole

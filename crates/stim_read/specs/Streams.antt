@@ -5,8 +5,6 @@ use Rattle.std.specs.Str.Lines.{lines}
 use Rattle.std.specs.Io.KnownBytes.{prepend_known}
 use Rattle.stim_read.specs.declared.line_reader.Found.{Found}
 use Rattle.stim_read.specs.declared.line_reader.Found.TheVariants.{Newline, Nothing, TooLong}
-use Rattle.stim_read.specs.declared.line_reader.LineEnd.{LineEnd}
-use Rattle.stim_read.specs.declared.line_reader.LineEnd.TheVariants as got
 
 -- the code of a newline
 abbrev pub newline : ℕ
