@@ -6,3 +6,4 @@ pub mod NumberLaws
 pub mod HeaderLaws
 pub mod Streams
 pub mod Whole
+pub mod Stand

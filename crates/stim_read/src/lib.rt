@@ -4,6 +4,7 @@
 
 mod header;
 mod inputs;
+mod layout;
 mod line_reader;
 mod row;
 
