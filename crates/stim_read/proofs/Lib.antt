@@ -7,3 +7,4 @@ pub mod HeaderLaws
 pub mod Streams
 pub mod Whole
 pub mod Stand
+pub mod Rooms

@@ -1,5 +1,6 @@
 -- What the bits of a field are once a value was put into a field's place.
-use Rattle.std.proofs.Common.{◌≡◌, ℕ, ◌+◌, ◌-◌, ◌≤◌, inl, inr, Bool, List, ◌++◌, length, take, drop, ap, sym, ◌∙◌, arith, length-append, append_assoc}
+use Rattle.std.proofs.Common.{◌≡◌, ℕ, ◌+◌, ◌-◌, ◌<◌, ◌≤◌, ◌⊎◌, inl, inr, Bool, List, ◌++◌, length, take, drop, ap, sym, ◌∙◌, arith, length-append, append_assoc}
+use Rattle.std.proofs.lemmas.Bool.{cases_lt}
 use Rattle.std.proofs.lemmas.List.{length-take-le, drop_at, take_at, drop-drop, drop-take, take-take, take-append-le}
 use Rattle.stim_read.specs.declared.inputs.Field.{Field}
 use Rattle.stim_read.specs.Stimulus.{bits_at}
@@ -48,5 +49,8 @@ behind_put old field other value fits long behind =
 -- A field that shares no bit with it is as before.
 pub bits_at_other : (old : List Bool) (field other : Field) (value : List Bool) → field.place + field.width ≤ length old → length value ≡ field.width
     → Apart other field → bits_at other (with_bits old field value) ≡ bits_at other old
-bits_at_other old field other value fits long (inl before) = before_put old field other value fits before
-bits_at_other old field other value fits long (inr behind) = behind_put old field other value fits long behind
+bits_at_other old field other value fits long apart = by_place (cases_lt field.place (other.place + other.width))
+  where
+    by_place : (field.place < other.place + other.width) ⊎ (other.place + other.width ≤ field.place) → bits_at other (with_bits old field value) ≡ bits_at other old
+    by_place (inl begins) = behind_put old field other value fits long (apart begins)
+    by_place (inr before) = before_put old field other value fits before

@@ -74,7 +74,7 @@ row_read all field fields line rest old mid new cut fit apart takes same tail ke
     let far : AllApart (field ∷ fields) = subst AllApart cut apart in
     let inside : field.place + field.width ≤ length old = first_all (λ f. f.place + f.width ≤ length old) field fields fits in
     let value : bits_at field new ≡ value_of field.width takes.word =
-    kept field far.0 ∙ ap (λ bits. bits_at field bits) takes.put
+    kept field (λ k d inside. far 0 (suc k) d (omega arith) (omega arith)) ∙ ap (λ bits. bits_at field bits) takes.put
     ∙ bits_at_put old field (value_of field.width takes.word) inside (length-value field.width takes.word takes.good) in
     subst (λ fs. IsRow fs (length old) line new) (sym cut)
     (row_from field fields (length old) line takes.word rest new takes.whole takes.good value tail (long ∙ same))
@@ -101,3 +101,9 @@ row_needs_empty all size line row none lacks is_row =
 pub fit_behind : (all : List Field) (field : Field) (fields : List Field) (size now : ℕ) → all ≡ field ∷ fields → now ≡ size → AllFit all size → AllFit fields now
 fit_behind all field fields size now cut same fit =
     subst (λ n. AllFit fields n) (sym same) (rest_all (λ f. f.place + f.width ≤ size) field fields (subst (λ fs. AllFit fs size) cut fit))
+
+-- The fields behind the first share no bit.
+pub apart_behind : (all : List Field) (field : Field) (fields : List Field) → all ≡ field ∷ fields → AllApart all → AllApart fields
+apart_behind all field fields cut apart =
+    let far : AllApart (field ∷ fields) = subst AllApart cut apart in
+    λ j k d before within. far (suc j) (suc k) d (omega arith) (omega arith)

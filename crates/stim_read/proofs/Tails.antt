@@ -1,6 +1,6 @@
 -- Words behind spaces, one field after the other.
 use Rattle.std.proofs.Common.{◌≡◌, ℕ, ◌+◌, ◌<◌, ◌≤◌, Bool, true, false, List, [], ◌∷◌, ◌++◌, length, drop, drop-cons, get_or, All, ap, sym, subst, ◌∙◌, refl, arith, suc, zero, length-drop}
-use Rattle.std.proofs.lemmas.List.{drop_at, nil_from_length}
+use Rattle.std.proofs.lemmas.List.{drop_at, nil_from_length, get_or_default}
 use Rattle.std.proofs.lemmas.List.Elements.{All-get_or}
 use Rattle.std.specs.Prelude.{◌==◌}
 use Rattle.std.specs.List.{flat_map}
@@ -116,10 +116,8 @@ length-value width word good = omega (arith, length-drop (padding_of width) (wor
 
 -- No two fields share a bit: none before the i-th does with it.
 pub apart_at : (fields : List Field) (j i : ℕ) (d e : Field) → AllApart fields → j < i → i < length fields → Apart (get_or fields j d) (get_or fields i e)
-apart_at [] j i d e apart before within = absurd (omega arith)
-apart_at (field ∷ fields) j zero d e apart before within = absurd (omega arith)
-apart_at (field ∷ fields) zero (suc i) d e apart before within = All-get_or (Apart field) fields i e (omega arith) apart.0
-apart_at (field ∷ fields) (suc j) (suc i) d e apart before within = apart_at fields j i d e apart.1 (omega arith) (omega arith)
+apart_at fields j i d e apart before within =
+    subst (λ field. Apart (get_or fields j d) field) (get_or_default fields i d e within) (apart j i d before within)
 
 -- A row that agrees with the new bits in one field more has the value there, and agrees with the old ones before.
 pub agrees_here : (fields : List Field) (i : ℕ) (row old new value : List Bool) → i < length fields

@@ -2,3 +2,4 @@ pub mod Stimulus
 pub mod Words
 pub mod Numbers
 pub mod Streams
+pub mod Reading

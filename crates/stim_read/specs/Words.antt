@@ -1,6 +1,6 @@
 -- What the steps over a row's line say of it: a word at the front of a text, and words that each
 -- follow a space.
-use Rattle.std.specs.Prelude.{◌≡◌, ℕ, ◌+◌, ◌≤◌, ◌⊎◌, Bool, List, [], ◌∷◌, ◌++◌, take, drop, All, ⊤}
+use Rattle.std.specs.Prelude.{◌≡◌, ℕ, ◌+◌, ◌<◌, ◌≤◌, Bool, List, length, [], ◌∷◌, ◌++◌, take, drop, get_or, All}
 use Rattle.std.specs.List.{flat_map}
 use Rattle.stim_read.specs.declared.inputs.Field.{Field}
 use Rattle.stim_read.specs.Stimulus.{space, IsWord, Spell, value_of}
@@ -26,14 +26,13 @@ pub record IsTail (fields : List Field) (text : List ℕ) (row : List Bool) : Ty
   pub joined : text ≡ flat_map spaced words
   pub spelled : Spell words fields row
 
--- two fields share no bit
+-- two fields share no bit: the second lies before the first, unless it begins behind it
 abbrev pub Apart : Field → Field → Type 0
-Apart first second = (first.place + first.width ≤ second.place) ⊎ (second.place + second.width ≤ first.place)
+Apart first second = second.place < first.place + first.width → second.place + second.width ≤ first.place
 
 -- no two fields share a bit
 abbrev pub AllApart : List Field → Type 0
-AllApart [] = ⊤
-AllApart (field ∷ fields) = All (Apart field) fields × AllApart fields
+AllApart fields = (j k : ℕ) (d : Field) → j < k → k < length fields → Apart (get_or fields j d) (get_or fields k d)
 
 -- each field lies within so many bits
 abbrev pub AllFit : List Field → ℕ → Type 0

@@ -2,10 +2,14 @@
 //! with a hexadecimal word for each of them.
 #![tactic(auto)]
 
+mod faults;
 mod header;
 mod inputs;
 mod layout;
 mod line_reader;
 mod row;
+mod stim;
 
+pub use faults::{StimFault, StimStop};
 pub use inputs::{DataInput, Field};
+pub use stim::Stim;

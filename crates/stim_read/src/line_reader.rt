@@ -189,4 +189,20 @@ impl LineReader {
             }
         }
     }
+
+    /// The line that was taken last.
+    pub(crate) fn line(&self) -> &[u8]
+        ensures { result.now ≡ self.now.line.items }
+    {
+        self.line.as_slice()
+    }
+
+    /// Begins a new line.
+    pub(crate) fn clear(&mut self)
+        ensures line { self.new.line.items ≡ [] }
+        ensures ahead { between self.new.buffer.items self.new.at self.new.end ≡ between self.old.buffer.items self.old.at self.old.end }
+        ensures kept { (self.new.most ≡ self.old.most) × (self.new.ended ≡ self.old.ended) }
+    {
+        self.line.clear();
+    }
 }

@@ -1,6 +1,6 @@
 use Rattle.std.proofs.Common.{length, ap}
 use Rattle.stim_read.proofs.Tails.{not_empty}
-use Rattle.stim_read.proofs.Rows.{row_read, row_needs_word, row_needs_tail, row_needs_empty, fit_behind}
+use Rattle.stim_read.proofs.Rows.{row_read, row_needs_word, row_needs_tail, row_needs_empty, fit_behind, apart_behind}
 use Rattle.stim_read.proofs.row.read_row.Goals as goal
 
 pub returns-in_default-clause-refused : goal.returns-in_default-clause-refused
@@ -29,3 +29,7 @@ returns-clause-refused c = λ rests row is_row.
     row_needs_tail c.args.fields.now c.in-Some.first.now c.in-Some.others.now (length c.args.bits.now) c.args.line.now
     c.in-Some-take_word.ensures.word.word c.in-Some-take_word.rest.now row c.in-Some.ensures.cases.0
     c.in-Some-take_word.ensures.word.whole c.in-Some-take_word.ensures.word.good (c.read_tail.ensures.refused rests row) is_row
+
+pub read_tail-requires-clause-apart : goal.read_tail-requires-clause-apart
+read_tail-requires-clause-apart c =
+    apart_behind c.args.fields.now c.in-Some.first.now c.in-Some.others.now c.in-Some.ensures.cases.0 c.requires.apart
