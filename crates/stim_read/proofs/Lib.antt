@@ -8,3 +8,4 @@ pub mod Streams
 pub mod Whole
 pub mod Stand
 pub mod Rooms
+pub mod Answered

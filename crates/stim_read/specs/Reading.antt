@@ -26,11 +26,6 @@ rest reading left = rest_of reading.unused reading.ended left
 abbrev pub most_rows : ℕ
 most_rows = 4294967295
 
--- Where the rest is told, it has a first line, of which the fact does not hold.
-abbrev pub FirstLineIsNot : (List ℕ → Type 0) → Option (List ℕ) → Type 0
-FirstLineIsNot P None = ⊤
-FirstLineIsNot P (Some bytes) = (line : List ℕ) × (more : List (List ℕ)) × (lines bytes ≡ line ∷ more) × (P line → ⊥)
-
 -- a line stands for some row
 abbrev pub IsSomeRow : List Field → ℕ → List ℕ → Type 0
 IsSomeRow fields size line = (row : List Bool) × IsRow fields size line row
@@ -43,10 +38,15 @@ pub record TakesRow (old new : Reading) (before after : Option (List ℕ)) : Typ
   pub fewer : old.taken < most_rows
   pub counted : new.taken ≡ old.taken + 1
 
--- Why the rest is refused: its first line is no row, and is named by its number, counted from 1, where
--- the header is line 1; or a line follows after the greatest number of rows.
+-- Why a line is refused behind so many rows: it is no row, and is named by its number, counted from 1,
+-- where the header is line 1; or it comes behind the greatest number of rows.
+abbrev pub RefusesLine : ℕ → Type 0 → StimRefusal → Type 0
+RefusesLine taken IsGood Header = ⊥
+RefusesLine taken IsGood (Line number) = (number ≡ taken + 2) × (taken < most_rows) × (IsGood → ⊥)
+RefusesLine taken IsGood (Limit number) = (number ≡ most_rows) × (taken ≡ most_rows)
+
+-- Where the rest is told, its first line is refused.
 abbrev pub Refuses : Reading → Option (List ℕ) → StimRefusal → Type 0
-Refuses old before Header = ⊥
-Refuses old before (Line number) =
-    (number ≡ old.taken + 2) × (old.taken < most_rows) × FirstLineIsNot (IsSomeRow old.fields (length old.bits)) before
-Refuses old before (Limit number) = (number ≡ most_rows) × (old.taken ≡ most_rows) × FirstLineIsNot (λ line. ⊥) before
+Refuses old None why = ⊤
+Refuses old (Some bytes) why = (line : List ℕ) × (more : List (List ℕ)) × (lines bytes ≡ line ∷ more)
+    × RefusesLine old.taken (IsSomeRow old.fields (length old.bits) line) why

@@ -13,6 +13,7 @@ use std::alloc::Global;
 const BUFFER: usize = 4096;
 
 // What a search for a newline found.
+#[derive(Clone, Copy)]
 pub(crate) enum Found {
     Newline,
     Nothing,
@@ -20,6 +21,7 @@ pub(crate) enum Found {
 }
 
 // What stands at the front of a stream: a line, the end, or more bytes than a line may have.
+#[derive(Clone, Copy)]
 pub(crate) enum LineEnd {
     Line,
     End,

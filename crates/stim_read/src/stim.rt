@@ -1,11 +1,12 @@
-ghost use Rattle.std.specs.Prelude.{◌≡◌, ◌≢◌, ℕ, ◌+◌, ◌⊎◌, ◌≤◌, Bool, true, false, [], length, sum, OnErr, Ok, Err, Some, None};
+ghost use Rattle.std.specs.Prelude.{◌≡◌, ◌≢◌, ℕ, ◌+◌, ◌⊎◌, ◌<◌, ◌≤◌, Bool, true, false, [], length, OnOk, Ok, Err, Some, None};
 ghost use Rattle.std.specs.Io.KnownBytes.{Keeps, IsAtEnd};
 ghost use Rattle.ila_base.specs.Faults.{Rose};
 ghost use Rattle.ila_base.specs.declared.refusal.StimRefusal.{StimRefusal};
 ghost use Rattle.stim_read.specs.declared.faults.StimFault.TheVariants as fault;
-ghost use Rattle.stim_read.specs.Stimulus.{names_of, widths_of, fields_of, AreNames, IsHeader};
-ghost use Rattle.stim_read.specs.Streams.{Unbroken, TakesLine};
-ghost use Rattle.stim_read.specs.Reading.{Reading, rest, TakesRow, Refuses, FirstLineIsNot};
+ghost use Rattle.stim_read.specs.Stimulus.{IsRow};
+ghost use Rattle.stim_read.specs.Words.{AllFit, AllApart};
+ghost use Rattle.stim_read.specs.Streams.{Unbroken};
+ghost use Rattle.stim_read.specs.Reading.{Reading, rest, most_rows, TakesRow, Refuses, RefusesLine, IsSomeRow};
 
 use crate::faults::StimFault;
 use crate::inputs::Field;
@@ -42,6 +43,38 @@ impl Model for Stim {
     ghost invariant = { λ s. (length s.spare.items ≡ length s.bits.items) × AllFit s.fields.items (length s.bits.items) × AllApart s.fields.items × (sum_by (λ field. digits_of field.width + 1) s.fields.items ≤ s.lines.most) × (1 ≤ s.lines.most) };
 }
 
+// Why a line that is no row is refused behind so many rows.
+fn refusal_of(taken: u32) -> StimRefusal
+    ensures { RefusesLine taken ⊥ result }
+{
+    if taken == u32::MAX {
+        return StimRefusal::Limit(u64::from(taken));
+    }
+    StimRefusal::Line(u64::from(taken) + 2)
+}
+
+// Puts the bits of the row that a line stands for into the slice, behind so many rows.
+fn take_row(
+    taken: u32,
+    fields: &[Field],
+    line: &[u8],
+    bits: &mut [bool],
+) -> Result<(), StimRefusal>
+    requires fit { AllFit fields.now (length bits.old) }
+    requires apart { AllApart fields.now }
+    ensures row { OnOk result ((taken < most_rows) × IsRow fields.now (length bits.old) line.now bits.new) }
+    ensures refused { (why : StimRefusal) → result ≡ Err why → RefusesLine taken (IsSomeRow fields.now (length bits.old) line.now) why }
+    ensures long { length bits.new ≡ length bits.old }
+{
+    if taken == u32::MAX {
+        return Err(StimRefusal::Limit(u64::from(taken)));
+    }
+    if !read_row(fields, line, bits) {
+        return Err(StimRefusal::Line(u64::from(taken) + 2));
+    }
+    Ok(())
+}
+
 impl Stim {
     /// The bits of the row taken last: the inputs in their order, each with its leftmost bit first.
     /// Before the first row all are 0.
@@ -59,11 +92,11 @@ impl Stim {
         ensures row { result ≡ Ok true → TakesRow self.old self.new (rest self.old (S.left source.old)) (rest self.new (S.left source.new)) }
         ensures end { result ≡ Ok false → IsAtEnd (rest self.old (S.left source.old)) × (self.new.ended ≡ true) × (self.new.unused ≡ []) }
         ensures refused { (why : StimRefusal) → result ≡ Err (fault.Refused why) → (self.new.refused ≡ Some why) × ((self.old.refused ≡ Some why) ⊎ Refuses self.old (rest self.old (S.left source.old)) why) }
-        ensures fault { result ≡ Err fault.ReadFault → Keeps (rest self.old (S.left source.old)) (rest self.new (S.left source.new)) × Unbroken self.new.unused × (self.new.ended ≡ false) }
+        ensures fault { result ≡ Err fault.ReadFault → Keeps (rest self.old (S.left source.old)) (rest self.new (S.left source.new)) × Unbroken self.new.unused × (self.new.ended ≡ false) × (self.new.refused ≡ None) }
         ensures cause { result ≡ Err fault.ReadFault → Rose (S.faults source.old) (S.faults source.new) }
         ensures later { S.faults source.old ≤ S.faults source.new }
         ensures again { (why : StimRefusal) → self.old.refused ≡ Some why → (result ≡ Err (fault.Refused why)) × (self.new ≡ self.old) × (source.new ≡ source.old) }
-        ensures open { ((why : StimRefusal) → result ≢ Err (fault.Refused why)) → self.new.refused ≡ None }
+        ensures open { (more : Bool) → result ≡ Ok more → self.new.refused ≡ None }
         ensures kept { (result ≢ Ok true) → (self.new.bits ≡ self.old.bits) × (self.new.taken ≡ self.old.taken) }
         ensures fields { (self.new.fields ≡ self.old.fields) × (length self.new.bits ≡ length self.old.bits) }
         ensures quiet { (Unbroken self.old.unused → ⊥) → source.new ≡ source.old }
@@ -72,18 +105,18 @@ impl Stim {
         if let Some(why) = self.refused {
             return Err(StimFault::Refused(why));
         }
-        let end = self.lines.next_line(source)?;
-        if matches!(end, LineEnd::End) {
-            return Ok(false);
+        match self.lines.next_line(source)? {
+            LineEnd::Line => {}
+            LineEnd::End => return Ok(false),
+            LineEnd::TooLong => {
+                let why = refusal_of(self.taken);
+                self.refused = Some(why);
+                return Err(StimFault::Refused(why));
+            }
         }
-        if self.taken == u32::MAX {
-            let why = StimRefusal::Limit(u64::from(u32::MAX));
-            self.refused = Some(why);
-            return Err(StimFault::Refused(why));
-        }
-        let is_line = matches!(end, LineEnd::Line);
-        if !is_line || !read_row(self.fields.as_slice(), self.lines.line(), &mut self.spare) {
-            let why = StimRefusal::Line(u64::from(self.taken) + 2);
+        let taken = self.taken;
+        let row = take_row(taken, self.fields.as_slice(), self.lines.line(), &mut self.spare);
+        if let Err(why) = row {
             self.refused = Some(why);
             return Err(StimFault::Refused(why));
         }
