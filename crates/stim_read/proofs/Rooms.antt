@@ -1,5 +1,5 @@
 -- How long the line of a header or of a row can be.
-use Rattle.std.proofs.Common.{◌≡◌, ◌≢◌, ℕ, ◌+◌, ◌<◌, ◌≤◌, ◌⊎◌, inl, inr, Bool, List, [], ◌∷◌, ◌++◌, map, length, get_or, set, All, refl, sym, ◌∙◌, ap, subst, arith, suc, zero, length-append}
+use Rattle.std.proofs.Common.{◌≡◌, ◌≢◌, ℕ, ◌+◌, ◌<◌, ◌≤◌, ◌⊎◌, inl, inr, Bool, List, [], ◌∷◌, map, length, get_or, set, All, refl, sym, ◌∙◌, ap, subst, arith, suc, length-append}
 use Rattle.std.specs.Prelude.{sum, sum_by}
 use Rattle.std.specs.List.{join_with_byte}
 use Rattle.std.proofs.lemmas.Bool.{cases_eq}

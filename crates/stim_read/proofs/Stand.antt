@@ -1,10 +1,9 @@
 -- Where the fields of the inputs stand in a row, and how long a line can be.
-use Rattle.std.proofs.Common.{◌≡◌, ◌≢◌, ℕ, ◌+◌, ◌<◌, ◌≤◌, ◌⊎◌, inl, inr, Bool, List, [], ◌∷◌, ◌++◌, map, length, take, drop, get_or, set, All, refl, sym, ◌∙◌, ap, subst, arith, suc, zero, length-append}
-use Rattle.std.specs.Prelude.{sum, sum_by, ⊤}
-use Rattle.std.specs.List.{join_with_byte}
+use Rattle.std.proofs.Common.{◌≡◌, ◌≢◌, ℕ, ◌+◌, ◌<◌, ◌≤◌, ◌⊎◌, inl, inr, List, [], ◌∷◌, ◌++◌, length, take, get_or, All, refl, sym, ◌∙◌, ap, subst, arith, suc, zero}
+use Rattle.std.specs.Prelude.{sum}
 use Rattle.std.proofs.lemmas.Bool.{cases_eq, cases_order, cases_lt}
 use Rattle.std.proofs.lemmas.List.{length-map, get_or-map, get_or_at, get_or_append_left, take-take}
-use Rattle.std.proofs.lemmas.List.Sums.{sum_by_more, sum_by_more_le, sum_by-take-le, sum_by-append, sum_by-set, sum-map}
+use Rattle.std.proofs.lemmas.List.Sums.{sum_by_more, sum_by_more_le, sum_by-take-le}
 use Rattle.stim_read.specs.declared.inputs.DataInput.{DataInput}
 use Rattle.stim_read.specs.declared.inputs.Field.{Field}
 use Rattle.stim_read.specs.Stimulus.{widths_of, field_at, fields_of, IsOrder}
@@ -54,6 +53,7 @@ inputs_apart widths j k within inside apart begins = by_order (cases_order j k)
         let front : take (a + 1) (take b widths) ≡ take (a + 1) widths = take-take (a + 1) b widths (omega arith) in
         let most : sum (take (a + 1) (take b widths)) ≤ sum (take b widths) = sum_by-take-le (λ x. x) (take b widths) (a + 1) in
         omega (arith, ap (λ xs. sum xs) front)
+
     by_order : (j ≡ k) ⊎ ((j < k) ⊎ (k < j)) → sum (take k widths) + get_or widths k 0 ≤ sum (take j widths)
     by_order (inl same) = absurd (apart same)
     by_order (inr (inl below)) = absurd (omega (arith, ends_before j k within below, begins))
@@ -107,6 +107,7 @@ at_most_once count order is_order q = by_place (cases_lt q count)
     never (x ∷ order) within beyond =
         let small : x < count = within 0 x (omega arith) in
         mentions_other x q order (λ same. absurd (omega arith)) ∙ never order (λ k d inside. within (suc k) d (omega arith)) beyond
+
     by_place : (q < count) ⊎ (count ≤ q) → mentions q order ≤ 1
     by_place (inl below) = omega (arith, is_order.once q below)
     by_place (inr beyond) = omega (arith, never order is_order.within beyond)

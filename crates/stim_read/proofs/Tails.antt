@@ -1,5 +1,5 @@
 -- Words behind spaces, one field after the other.
-use Rattle.std.proofs.Common.{◌≡◌, ℕ, ◌+◌, ◌<◌, ◌≤◌, Bool, true, false, List, [], ◌∷◌, ◌++◌, length, drop, drop-cons, get_or, All, ap, sym, subst, ◌∙◌, refl, arith, suc, zero, length-drop}
+use Rattle.std.proofs.Common.{◌≡◌, ℕ, ◌+◌, ◌<◌, ◌≤◌, Bool, true, false, List, [], ◌∷◌, ◌++◌, length, drop, drop-cons, get_or, All, ap, sym, subst, ◌∙◌, refl, arith, suc, length-drop}
 use Rattle.std.proofs.lemmas.List.{drop_at, nil_from_length, get_or_default}
 use Rattle.std.proofs.lemmas.List.Elements.{All-get_or}
 use Rattle.std.specs.Prelude.{◌==◌}

@@ -1,6 +1,6 @@
 -- What the steps over a row's line say of it: a word at the front of a text, and words that each
 -- follow a space.
-use Rattle.std.specs.Prelude.{◌≡◌, ℕ, ◌+◌, ◌<◌, ◌≤◌, Bool, List, length, [], ◌∷◌, ◌++◌, take, drop, get_or, All}
+use Rattle.std.specs.Prelude.{◌≡◌, ℕ, ◌+◌, ◌<◌, ◌≤◌, Bool, List, length, ◌∷◌, ◌++◌, take, drop, get_or, All}
 use Rattle.std.specs.List.{flat_map}
 use Rattle.stim_read.specs.declared.inputs.Field.{Field}
 use Rattle.stim_read.specs.Stimulus.{space, IsWord, Spell, value_of}

@@ -54,12 +54,7 @@ fn refusal_of(taken: u32) -> StimRefusal
 }
 
 // Puts the bits of the row that a line stands for into the slice, behind so many rows.
-fn take_row(
-    taken: u32,
-    fields: &[Field],
-    line: &[u8],
-    bits: &mut [bool],
-) -> Result<(), StimRefusal>
+fn take_row(taken: u32, fields: &[Field], line: &[u8], bits: &mut [bool]) -> Result<(), StimRefusal>
     requires fit { AllFit fields.now (length bits.old) }
     requires apart { AllApart fields.now }
     ensures row { OnOk result ((taken < most_rows) × IsRow fields.now (length bits.old) line.now bits.new) }
@@ -115,7 +110,12 @@ impl Stim {
             }
         }
         let taken = self.taken;
-        let row = take_row(taken, self.fields.as_slice(), self.lines.line(), &mut self.spare);
+        let row = take_row(
+            taken,
+            self.fields.as_slice(),
+            self.lines.line(),
+            &mut self.spare,
+        );
         if let Err(why) = row {
             self.refused = Some(why);
             return Err(StimFault::Refused(why));
