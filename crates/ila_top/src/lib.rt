@@ -8,6 +8,7 @@ mod first;
 mod form;
 mod line;
 mod load;
+mod run;
 mod status;
 
 pub use ending::{exit_code, report};

@@ -1,0 +1,11 @@
+pub mod Bits
+pub mod Places
+pub mod Tails
+pub mod Rows
+pub mod NumberLaws
+pub mod HeaderLaws
+pub mod Streams
+pub mod Whole
+pub mod Stand
+pub mod Rooms
+pub mod Answered

@@ -1,0 +1,48 @@
+use Rattle.std.proofs.Common.{arith, subst, sym, ◌∙◌, ap}
+use Rattle.std.specs.Prelude.{◌==◌}
+use Rattle.stim_read.specs.Streams.{Unbroken, between, rest_of}
+use Rattle.stim_read.proofs.Whole.{whole_filled, whole_line, long_line, last_line, nothing_between}
+use Rattle.stim_read.proofs.line_reader.LineReader.next_line.Goals as goal
+
+pub returns-in-Newline-clause-line : goal.returns-in-Newline-clause-line
+returns-in-Newline-clause-line g c = λ _.
+    let self = c.loop-self.self in
+    whole_line _ self.line.items (between self.buffer.items self.at self.end)
+    (between c.take_ahead.new.self.buffer.items c.take_ahead.new.self.at c.take_ahead.new.self.end)
+    (between c.strip.new.self.buffer.items c.strip.new.self.at c.strip.new.self.end) c.take_ahead.new.self.line.items c.strip.new.self.line.items
+    self.ended c.take_ahead.new.self.ended c.strip.new.self.ended (g.S.Source.left c.loop-self.source) c.loop-self.invariant.kept
+    c.in-Newline.ensures.found c.take_ahead.new.self.unbroken c.strip.ensures.line c.take_ahead.ensures.kept.1 c.strip.ensures.kept.1 c.strip.ensures.ahead
+
+pub returns-in-TooLong-clause-long : goal.returns-in-TooLong-clause-long
+returns-in-TooLong-clause-long g c = λ _.
+    let self = c.loop-self.self in
+    long_line _ c.args.self.now.most self.most self.line.items (between self.buffer.items self.at self.end) self.ended (g.S.Source.left c.loop-self.source)
+    c.loop-self.invariant.kept self.unbroken c.loop-self.invariant.most c.in-TooLong.ensures.found
+
+pub returns-then-not-branch-clause-line : goal.returns-then-not-branch-clause-line
+returns-then-not-branch-clause-line g c = λ _.
+    let self = c.loop-self.self in
+    let new = c.fill.new.self in
+    last_line _ new.line.items (between new.buffer.items new.at new.end) new.ended (g.S.Source.left c.fill.new.source)
+    (whole_filled _ self.line.items (between self.buffer.items self.at self.end) c.take_ahead.new.self.line.items new.line.items self.ended
+    c.take_ahead.new.self.ended (g.S.Source.left c.loop-self.source) (rest_of (between new.buffer.items new.at new.end) new.ended (g.S.Source.left c.fill.new.source))
+    c.loop-self.invariant.kept c.in-Nothing.ensures.found.2 c.take_ahead.ensures.kept.1 c.fill.ensures.line c.fill.ensures.rest)
+    (c.in_ok-fill.ensures.end c.if-not-branch.true)
+    (nothing_between new.buffer.items new.at new.end (new.drained (c.in_ok-fill.ensures.end c.if-not-branch.true))) new.unbroken
+    (ap (λ n. n == 0) (sym new.line.ok.0) ∙ sym c.is_empty.ensures ∙ c.if-is_empty.false)
+
+pub loop-self-preserved : goal.loop-self-preserved
+loop-self-preserved g c =
+    let self = c.loop-self.self in
+    let new = c.fill.new.self in
+    record {
+      kept = whole_filled _ self.line.items (between self.buffer.items self.at self.end) c.take_ahead.new.self.line.items new.line.items self.ended
+          c.take_ahead.new.self.ended (g.S.Source.left c.loop-self.source) (rest_of (between new.buffer.items new.at new.end) new.ended (g.S.Source.left c.fill.new.source))
+          c.loop-self.invariant.kept c.in-Nothing.ensures.found.2 c.take_ahead.ensures.kept.1 c.fill.ensures.line c.fill.ensures.rest;
+      most = c.fill.ensures.most ∙ c.take_ahead.ensures.kept.0 ∙ c.loop-self.invariant.most;
+      later = omega (arith, c.loop-self.invariant.later, c.fill.ensures.later);
+      quiet = λ broken. absurd (broken (subst Unbroken (c.loop-self.invariant.quiet broken).1 c.in-Nothing.ensures.found.0));
+      ended = λ was.
+          let still = c.loop-self.invariant.ended was in
+          let quiet = c.fill.ensures.quiet (c.take_ahead.ensures.kept.1 ∙ still.1) in (quiet.0 ∙ still.0, quiet.1);
+    }

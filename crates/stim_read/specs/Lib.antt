@@ -1,0 +1,5 @@
+pub mod Stimulus
+pub mod Words
+pub mod Numbers
+pub mod Streams
+pub mod Reading

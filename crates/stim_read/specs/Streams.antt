@@ -1,0 +1,45 @@
+-- The lines of a stream: what a reader has read and not used yet, what it still can read, and the
+-- first line of these bytes.
+use Rattle.std.specs.Prelude.{◌≡◌, ◌≢◌, ℕ, ◌+◌, ◌-◌, ◌<◌, Bool, true, false, List, [], ◌∷◌, ◌++◌, length, take, drop, All, ⊤, Option, Some, None}
+use Rattle.std.specs.Str.Lines.{lines}
+use Rattle.std.specs.Io.KnownBytes.{prepend_known}
+use Rattle.stim_read.specs.declared.line_reader.Found.{Found}
+use Rattle.stim_read.specs.declared.line_reader.Found.TheVariants.{Newline, Nothing, TooLong}
+
+-- the code of a newline
+abbrev pub newline : ℕ
+newline = 10
+
+-- bytes without a newline
+abbrev pub Unbroken : List ℕ → Type 0
+Unbroken bytes = All (λ byte. byte ≢ newline) bytes
+
+-- the bytes of a buffer from a place up to another
+abbrev pub between : List ℕ → ℕ → ℕ → List ℕ
+between buffer at end = take (end - at) (drop at buffer)
+
+-- What is still to come: the unused bytes and what the source has left, or the unused bytes alone
+-- once the end was met.
+abbrev pub rest_of : List ℕ → Bool → Option (List ℕ) → Option (List ℕ)
+rest_of unused true left = Some unused
+rest_of unused false left = prepend_known unused left
+
+-- What a search for a newline found in bytes behind a begun line. They are moved to the line up to
+-- the newline, or all of them, but for a line that then would have too many bytes.
+abbrev pub Finds : Found → ℕ → List ℕ → List ℕ → List ℕ → List ℕ → Type 0
+Finds Newline most line ahead grown behind =
+    (piece : List ℕ) × Unbroken piece × (ahead ≡ piece ++ newline ∷ behind) × (grown ≡ line ++ piece)
+Finds Nothing most line ahead grown behind = Unbroken ahead × (behind ≡ []) × (grown ≡ line ++ ahead)
+Finds TooLong most line ahead grown behind =
+    (piece : List ℕ) × (more : List ℕ) × Unbroken piece × (ahead ≡ piece ++ more) × (most < length line + length piece)
+
+-- Where the rest is told, this is its first line, and the new rest has the others.
+abbrev pub TakesLine : Option (List ℕ) → List ℕ → Option (List ℕ) → Type 0
+TakesLine None line new = ⊤
+TakesLine (Some rest) line None = ⊥
+TakesLine (Some rest) line (Some new) = lines rest ≡ line ∷ lines new
+
+-- Where the rest is told, it begins with more bytes than these without a newline.
+abbrev pub HasLongLine : ℕ → Option (List ℕ) → Type 0
+HasLongLine most None = ⊤
+HasLongLine most (Some rest) = (piece : List ℕ) × (more : List ℕ) × Unbroken piece × (rest ≡ piece ++ more) × (most < length piece)

@@ -1,0 +1,15 @@
+//! Reads a stimulus: a header line that names the data inputs of a design, and for each clock a line
+//! with a hexadecimal word for each of them.
+#![tactic(auto)]
+
+mod faults;
+mod header;
+mod inputs;
+mod layout;
+mod line_reader;
+mod row;
+mod stim;
+
+pub use faults::{StimFault, StimStop};
+pub use inputs::{DataInput, Field};
+pub use stim::Stim;
