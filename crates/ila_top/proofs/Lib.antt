@@ -1,3 +1,4 @@
 pub mod Lines
+pub mod RowLaws
 pub mod Seen
 pub mod Words

@@ -1,6 +1,6 @@
-ghost use Rattle.std.specs.Prelude.{◌≡◌, ◌≢◌, ℕ, ◌≤◌, List, Option, OnErr, Some};
+ghost use Rattle.std.specs.Prelude.{◌≡◌, ℕ, ◌≤◌, List, Option, None, OnErr};
 ghost use Rattle.std.specs.Io.KnownBytes.{Appends, IsAtEnd};
-ghost use Rattle.ila_base.specs.Faults.{Rose, Writes};
+ghost use Rattle.ila_base.specs.Faults.{Rose};
 ghost use Rattle.ila_base.specs.declared.refusal.StimRefusal.{StimRefusal};
 ghost use Rattle.stim_read.specs.declared.inputs.DataInput.{DataInput};
 ghost use Rattle.stim_read.specs.Reading.{rest};
@@ -23,6 +23,7 @@ pub fn run<S: Source, K: Sink>(
     stimulus: &mut S,
     trace: &mut K,
 ) -> Status
+    requires { stim.old.refused ≡ None }
     ensures answers { IsRunAnswer (S.faults stimulus.old) (S.faults stimulus.new) (K.faults trace.old) (K.faults trace.new) result }
     ensures refused { (inputs : List DataInput) (text : Option (List ℕ)) (why : StimRefusal) → IsAheadIfTold inputs text stim.old (rest stim.old (S.left stimulus.old))
         → result ≡ Status.Stimulus why → RefusesIfTold inputs text why }

@@ -2,7 +2,7 @@
 -- first line of these bytes.
 use Rattle.std.specs.Prelude.{◌≡◌, ◌≢◌, ℕ, ◌+◌, ◌-◌, ◌<◌, Bool, true, false, List, [], ◌∷◌, ◌++◌, length, take, drop, All, ⊤, Option, Some, None}
 use Rattle.std.specs.Str.Lines.{lines}
-use Rattle.std.specs.Io.KnownBytes.{prepend_known}
+use Rattle.std.specs.Io.KnownBytes.{prepend_known, IsAtEnd}
 use Rattle.stim_read.specs.declared.line_reader.Found.{Found}
 use Rattle.stim_read.specs.declared.line_reader.Found.TheVariants.{Newline, Nothing, TooLong}
 
@@ -23,6 +23,10 @@ between buffer at end = take (end - at) (drop at buffer)
 abbrev pub rest_of : List ℕ → Bool → Option (List ℕ) → Option (List ℕ)
 rest_of unused true left = Some unused
 rest_of unused false left = prepend_known unused left
+
+-- Where the end was met, the source has nothing left.
+abbrev pub IsDrained : Bool → Option (List ℕ) → Type 0
+IsDrained ended left = ended ≡ true → IsAtEnd left
 
 -- What a search for a newline found in bytes behind a begun line. They are moved to the line up to
 -- the newline, or all of them, but for a line that then would have too many bytes.

@@ -134,6 +134,7 @@ impl LineReader {
         ensures end { IfOk result (λ more. more ≡ false → self.new.ended ≡ true) }
         ensures stays { OnErr result ((self.new.at ≡ self.new.end) × (self.new.ended ≡ false)) }
         ensures quiet { self.old.ended ≡ true → (source.new ≡ source.old) × (self.new.ended ≡ true) }
+        ensures drained { IsDrained self.old.ended (S.left source.old) → IsDrained self.new.ended (S.left source.new) }
         ensures later { S.faults source.old ≤ S.faults source.new }
         ensures cause { OnErr result (Rose (S.faults source.old) (S.faults source.new)) }
     {
@@ -171,6 +172,7 @@ impl LineReader {
         ensures most { self.new.most ≡ self.old.most }
         ensures quiet { (Unbroken (between self.old.buffer.items self.old.at self.old.end) → ⊥) → source.new ≡ source.old }
         ensures ended { self.old.ended ≡ true → (source.new ≡ source.old) × (self.new.ended ≡ true) }
+        ensures drained { IsDrained self.old.ended (S.left source.old) → IsDrained self.new.ended (S.left source.new) }
         ensures later { S.faults source.old ≤ S.faults source.new }
         ensures cause { OnErr result (Rose (S.faults source.old) (S.faults source.new)) }
     {

@@ -2,10 +2,11 @@ ghost use Rattle.std.specs.Prelude.{◌≡◌, ◌≢◌, ℕ, ◌+◌, ◌⊎�
 ghost use Rattle.std.specs.Io.KnownBytes.{Keeps, IsAtEnd};
 ghost use Rattle.ila_base.specs.Faults.{Rose};
 ghost use Rattle.ila_base.specs.declared.refusal.StimRefusal.{StimRefusal};
+ghost use Rattle.ila_base.specs.declared.refusal.StimRefusal.TheVariants as refusal;
 ghost use Rattle.stim_read.specs.declared.faults.StimFault.TheVariants as fault;
 ghost use Rattle.stim_read.specs.Stimulus.{IsRow};
 ghost use Rattle.stim_read.specs.Words.{AllFit, AllApart};
-ghost use Rattle.stim_read.specs.Streams.{Unbroken};
+ghost use Rattle.stim_read.specs.Streams.{Unbroken, IsDrained};
 ghost use Rattle.stim_read.specs.Reading.{Reading, rest, most_rows, TakesRow, Refuses, RefusesLine, IsSomeRow};
 
 use crate::faults::StimFault;
@@ -96,6 +97,8 @@ impl Stim {
         ensures fields { (self.new.fields ≡ self.old.fields) × (length self.new.bits ≡ length self.old.bits) }
         ensures quiet { (Unbroken self.old.unused → ⊥) → source.new ≡ source.old }
         ensures ended { self.old.ended ≡ true → (source.new ≡ source.old) × (self.new.ended ≡ true) }
+        ensures drained { IsDrained self.old.ended (S.left source.old) → IsDrained self.new.ended (S.left source.new) }
+        ensures behind { self.old.refused ≡ None → result ≡ Err (fault.Refused refusal.Header) → ⊥ }
     {
         if let Some(why) = self.refused {
             return Err(StimFault::Refused(why));
