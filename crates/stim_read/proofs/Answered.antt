@@ -166,3 +166,9 @@ row_taken old new before after now known line same stays first row fewer counted
 -- A slice that was filled whole.
 pub filled_whole : (old new : List Bool) (count : ℕ) → length new ≡ count → take count (new ++ drop (length new) old) ≡ new
 filled_whole old new count long = take_at new (drop (length new) old) count long
+
+-- A line behind the header is never refused as the header.
+pub behind_header : (taken : ℕ) (IsGood : Type 0) (why : StimRefusal) → RefusesLine taken IsGood why → why ≡ Header → ⊥
+behind_header taken IsGood Header refuses same = refuses
+behind_header taken IsGood (Line number) refuses same = cc
+behind_header taken IsGood (Limit number) refuses same = cc

@@ -9,3 +9,4 @@ pub mod Whole
 pub mod Stand
 pub mod Rooms
 pub mod Answered
+pub mod Begun

@@ -1,10 +1,11 @@
 -- A reader of a stimulus between two rows, and what it takes and refuses.
-use Rattle.std.specs.Prelude.{◌≡◌, ℕ, ◌+◌, ◌<◌, Bool, List, ◌∷◌, length, ⊤, Option, Some, None}
+use Rattle.std.specs.Prelude.{◌≡◌, ℕ, ◌+◌, ◌<◌, Bool, false, List, ◌∷◌, length, replicate, sum, ⊤, Option, Some, None}
 use Rattle.std.specs.Str.Lines.{lines}
 use Rattle.ila_base.specs.declared.refusal.StimRefusal.{StimRefusal}
 use Rattle.ila_base.specs.declared.refusal.StimRefusal.TheVariants.{Header, Line, Limit}
+use Rattle.stim_read.specs.declared.inputs.DataInput.{DataInput}
 use Rattle.stim_read.specs.declared.inputs.Field.{Field}
-use Rattle.stim_read.specs.Stimulus.{IsRow}
+use Rattle.stim_read.specs.Stimulus.{names_of, widths_of, fields_of, IsHeader, IsRow}
 use Rattle.stim_read.specs.Streams.{rest_of, TakesLine}
 
 -- The fields in the header's order, the bytes that were read and not used yet, whether the end was
@@ -49,3 +50,20 @@ abbrev pub Refuses : Reading → Option (List ℕ) → StimRefusal → Type 0
 Refuses old None why = ⊤
 Refuses old (Some bytes) why = (line : List ℕ) × (more : List (List ℕ)) × (lines bytes ≡ line ∷ more)
     × RefusesLine old.taken (IsSomeRow old.fields (length old.bits) line) why
+
+-- Where the text is told, its first line is no header of the inputs, or there is no first line.
+abbrev pub HasNoHeader : List DataInput → Option (List ℕ) → Type 0
+HasNoHeader inputs None = ⊤
+HasNoHeader inputs (Some text) =
+    (line : List ℕ) (more : List (List ℕ)) (order : List ℕ) → lines text ≡ line ∷ more → IsHeader (names_of inputs) order line → ⊥
+
+-- The first line of a text is a header of the inputs, whose rows are to be read from what is left.
+pub record Begins (inputs : List DataInput) (text left : Option (List ℕ)) (reading : Reading) : Type 0 where
+  pub line : List ℕ
+  pub order : List ℕ
+  pub first : TakesLine text line (rest reading left)
+  pub named : IsHeader (names_of inputs) order line
+  pub fields : reading.fields ≡ fields_of (widths_of inputs) order
+  pub bits : reading.bits ≡ replicate (sum (widths_of inputs)) false
+  pub taken : reading.taken ≡ 0
+  pub refused : reading.refused ≡ None

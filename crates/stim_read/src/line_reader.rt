@@ -4,7 +4,7 @@ ghost use Rattle.std.specs.Str.Lines.{strip_carriage_return};
 ghost use Rattle.ila_base.specs.Faults.{Rose};
 ghost use Rattle.stim_read.specs.declared.line_reader.Found.TheVariants as found;
 ghost use Rattle.stim_read.specs.declared.line_reader.LineEnd.TheVariants as got;
-ghost use Rattle.stim_read.specs.Streams.{newline, Unbroken, Finds, between, rest_of, TakesLine, HasLongLine};
+ghost use Rattle.stim_read.specs.Streams.{newline, Unbroken, Finds, between, rest_of, TakesLine, HasLongLine, IsDrained};
 
 use ila_base::{Failed, NoMemory, Source};
 use std::alloc::Global;

@@ -1,19 +1,23 @@
-ghost use Rattle.std.specs.Prelude.{◌≡◌, ◌≢◌, ℕ, ◌+◌, ◌⊎◌, ◌<◌, ◌≤◌, Bool, true, false, [], length, OnOk, Ok, Err, Some, None};
+ghost use Rattle.std.specs.Prelude.{◌≡◌, ◌≢◌, ℕ, ◌+◌, ◌⊎◌, ◌<◌, ◌≤◌, Bool, true, false, [], length, replicate, IfOk, OnOk, Ok, Err, Some, None};
 ghost use Rattle.std.specs.Io.KnownBytes.{Keeps, IsAtEnd};
 ghost use Rattle.ila_base.specs.Faults.{Rose};
 ghost use Rattle.ila_base.specs.declared.refusal.StimRefusal.{StimRefusal};
 ghost use Rattle.ila_base.specs.declared.refusal.StimRefusal.TheVariants as refusal;
 ghost use Rattle.stim_read.specs.declared.faults.StimFault.TheVariants as fault;
-ghost use Rattle.stim_read.specs.Stimulus.{IsRow};
+ghost use Rattle.stim_read.specs.declared.faults.StimStop.TheVariants as stop;
+ghost use Rattle.stim_read.specs.Stimulus.{IsRow, AreNames, names_of};
 ghost use Rattle.stim_read.specs.Words.{AllFit, AllApart};
+ghost use Rattle.stim_read.specs.Reading.{Reading, rest, most_rows, TakesRow, Refuses, RefusesLine, IsSomeRow, Begins, HasNoHeader};
 ghost use Rattle.stim_read.specs.Streams.{Unbroken, IsDrained};
-ghost use Rattle.stim_read.specs.Reading.{Reading, rest, most_rows, TakesRow, Refuses, RefusesLine, IsSomeRow};
 
-use crate::faults::StimFault;
-use crate::inputs::Field;
+use crate::faults::{StimFault, StimStop};
+use crate::header::header;
+use crate::inputs::{DataInput, Field};
+use crate::layout::{fields_in_order, room};
 use crate::line_reader::{LineEnd, LineReader};
 use crate::row::read_row;
-use ila_base::{Source, StimRefusal};
+use ila_base::{NoMemory, Source, StimRefusal};
+use std::alloc::Global;
 use std::marker::Model;
 use std::mem;
 
@@ -71,7 +75,51 @@ fn take_row(taken: u32, fields: &[Field], line: &[u8], bits: &mut [bool]) -> Res
     Ok(())
 }
 
+// So many bits that are 0.
+fn zeros(alloc: Global, count: usize) -> Result<Vec<bool>, NoMemory>
+    ensures { IfOk result (λ bits. bits.items ≡ replicate count false) }
+{
+    Ok(vec![in alloc; false; count]?)
+}
+
 impl Stim {
+    /// Begins to read a stimulus of these inputs. It reads the first line alone, and takes all memory.
+    /// Refused carries S1, where that line is no header or there is none.
+    pub fn over<S: Source>(
+        alloc: Global,
+        source: &mut S,
+        inputs: &[DataInput],
+    ) -> Result<Stim, StimStop>
+        requires { AreNames (names_of inputs.now) }
+        ensures begun { IfOk result (λ stim. Begins inputs.now (S.left source.old) (S.left source.new) stim) }
+        ensures refused { (why : StimRefusal) → result ≡ Err (stop.Refused why) → (why ≡ refusal.Header) × HasNoHeader inputs.now (S.left source.old) }
+        ensures cause { result ≡ Err stop.ReadFault → Rose (S.faults source.old) (S.faults source.new) }
+        ensures drained { IfOk result (λ stim. IsDrained stim.ended (S.left source.new)) }
+        ensures later { S.faults source.old ≤ S.faults source.new }
+    {
+        let mut lines = LineReader::new(alloc, room(inputs)?)?;
+        match lines.next_line(source)? {
+            LineEnd::Line => {}
+            LineEnd::End => return Err(StimStop::Refused(StimRefusal::Header)),
+            LineEnd::TooLong => return Err(StimStop::Refused(StimRefusal::Header)),
+        }
+        let Some(order) = header(alloc, inputs, lines.line())? else {
+            return Err(StimStop::Refused(StimRefusal::Header));
+        };
+        let (fields, size) = fields_in_order(alloc, inputs, order.as_slice())?;
+        lines.clear();
+        let bits = zeros(alloc, size)?;
+        let spare = zeros(alloc, size)?;
+        Ok(Stim {
+            lines,
+            fields,
+            bits,
+            spare,
+            taken: 0,
+            refused: None,
+        })
+    }
+
     /// The bits of the row taken last: the inputs in their order, each with its leftmost bit first.
     /// Before the first row all are 0.
     pub fn bits(&self) -> &[bool]

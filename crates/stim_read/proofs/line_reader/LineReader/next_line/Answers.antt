@@ -45,4 +45,5 @@ loop-self-preserved g c =
       ended = λ was.
           let still = c.loop-self.invariant.ended was in
           let quiet = c.fill.ensures.quiet (c.take_ahead.ensures.kept.1 ∙ still.1) in (quiet.0 ∙ still.0, quiet.1);
+      drained = λ was. c.fill.ensures.drained (λ ended. c.loop-self.invariant.drained was (sym c.take_ahead.ensures.kept.1 ∙ ended));
     }

@@ -1,6 +1,6 @@
 use Rattle.std.proofs.Common.{◌≡◌, ◌+◌, ◌-◌, ◌≤◌, min, true, length}
 use Rattle.std.specs.Io.KnownBytes.{Keeps}
-use Rattle.stim_read.specs.Streams.{Unbroken, between}
+use Rattle.stim_read.specs.Streams.{Unbroken, between, IsDrained}
 use Rattle.stim_read.proofs.Whole.{whole}
 use Rattle.stim_read.proofs.line_reader.LineReader.next_line.Given as goal
 
@@ -16,6 +16,7 @@ invariant-loop-self g l = record {
   quiet : (Unbroken (between l.initial.self.buffer.items l.initial.self.at l.initial.self.end) → ⊥)
       → (l.source ≡ l.initial.source) × (between l.self.buffer.items l.self.at l.self.end ≡ between l.initial.self.buffer.items l.initial.self.at l.initial.self.end);
   ended : l.initial.self.ended ≡ true → (l.source ≡ l.initial.source) × (l.self.ended ≡ true);
+  drained : IsDrained l.initial.self.ended (g.S.Source.left l.initial.source) → IsDrained l.self.ended (g.S.Source.left l.source)
 }
 
 abbrev pub decreases-loop-self : goal.decreases-loop-self

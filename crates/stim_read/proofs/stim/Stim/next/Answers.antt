@@ -4,7 +4,8 @@ use Rattle.stim_read.specs.Streams.{Unbroken, between, rest_of, TakesLine, HasLo
 use Rattle.stim_read.specs.Reading.{Reading, rest, TakesRow, Refuses, RefusesLine}
 use Rattle.stim_read.specs.contracts.stim.Stim.{the_view}
 use Rattle.stim_read.proofs.Whole.{whole, nothing_between}
-use Rattle.stim_read.proofs.Answered.{broken_ahead, whole_is, refuses_long, refuses_line, keeps_rest, clean_unused, refused_same, row_same, cleared, row_taken, filled_whole}
+use Rattle.stim_read.proofs.Answered.{broken_ahead, whole_is, refuses_long, refuses_line, keeps_rest, clean_unused, refused_same, row_same, cleared, row_taken, filled_whole, behind_header}
+use Rattle.ila_base.specs.declared.refusal.StimRefusal.TheVariants.{Header}
 use Rattle.stim_read.proofs.stim.Stim.next.Goals as goal
 
 pub returns-in_err-next_line-clause-quiet : goal.returns-in_err-next_line-clause-quiet
@@ -98,3 +99,8 @@ returns-clause-row g c = λ _.
     c.take_row-row.new.bits c.swap.new.x.items c.as_slice.ensures.value (ap (λ bs. length bs) c.deref_mut.ensures.value ∙ c.self.invariant.0) c.line.ensures
     (ap (λ v. v.items) c.swap.ensures.x_after ∙ filled_whole c.self.inside.spare.items c.take_row-row.new.bits c.self.inside.spare.len
     (c.in_default-row.ensures.long ∙ ap (λ bs. length bs) c.deref_mut.ensures.value ∙ sym c.self.inside.spare.ok.0)) c.in_default-row.ensures.row.1) c.in_default-row.ensures.row.0 refl)
+
+pub returns-in-Err-clause-behind : goal.returns-in-Err-clause-behind
+returns-in-Err-clause-behind g c = λ unrefused same.
+    let header : c.in-Err.why ≡ Header = cc in
+    behind_header _ _ c.in-Err.why (c.in-Err.ensures.refused c.in-Err.why refl) header
