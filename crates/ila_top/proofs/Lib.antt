@@ -1,4 +1,8 @@
+pub mod Begun
+pub mod Gains
 pub mod Lines
 pub mod RowLaws
 pub mod Seen
+pub mod SimLaws
+pub mod Simulation
 pub mod Words

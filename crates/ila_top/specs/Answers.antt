@@ -162,3 +162,9 @@ pub record Stands (before after : Outside) (status : Status) : Type 0 where
   pub read_faults : before.read_faults ≤ after.read_faults
   pub write_faults : before.write_faults ≤ after.write_faults
   pub streams : Leaves before after status
+
+-- a text that is not in the form that is read, or want of memory
+abbrev pub IsUnread : Status → Type 0
+IsUnread (Netlist net.Syntax place) = place ≡ at_start
+IsUnread NoMemory = ⊤
+IsUnread _ = ⊥

@@ -1,10 +1,10 @@
 -- Why a stimulus is refused, and how far it was read.
 use Rattle.std.specs.Prelude.{◌≡◌, ℕ, ◌+◌, Bool, true, List, [], ◌∷◌, ◌++◌, map, length, sum, ⊤, Option, Some, None}
 use Rattle.std.specs.Str.Lines.{lines}
-use Rattle.std.specs.Io.KnownBytes.{IsAtEnd}
+use Rattle.std.specs.Io.KnownBytes.{IsAtEnd, Keeps, Appends}
 use Rattle.ila_base.specs.Faults.{Rose}
 use Rattle.ila_top.specs.declared.status.Status.{Status}
-use Rattle.ila_top.specs.declared.status.Status.TheVariants.{Done, Stimulus, ReadFault, WriteFault}
+use Rattle.ila_top.specs.declared.status.Status.TheVariants.{Done, Stimulus, ReadFault, WriteFault, NoMemory}
 use Rattle.ila_base.specs.declared.refusal.StimRefusal.{StimRefusal}
 use Rattle.ila_base.specs.declared.refusal.StimRefusal.TheVariants as refusal
 use Rattle.stim_read.specs.declared.inputs.DataInput.{DataInput}
@@ -52,10 +52,6 @@ IsAheadIfTold inputs None reading coming = ⊤
 IsAheadIfTold inputs (Some text) reading None = ⊥
 IsAheadIfTold inputs (Some text) reading (Some coming) = IsAhead inputs text reading coming
 
--- A reader that met the end left nothing.
-abbrev pub IsDrained : Reading → Option (List ℕ) → Type 0
-IsDrained reading left = reading.ended ≡ true → IsAtEnd left
-
 -- what reading rows and writing lines may end in, each fault with its cause
 abbrev pub IsRunAnswer : ℕ → ℕ → ℕ → ℕ → Status → Type 0
 IsRunAnswer reads_before reads_after writes_before writes_after Done = ⊤
@@ -64,3 +60,26 @@ IsRunAnswer reads_before reads_after writes_before writes_after (Stimulus why) =
 IsRunAnswer reads_before reads_after writes_before writes_after ReadFault = Rose reads_before reads_after
 IsRunAnswer reads_before reads_after writes_before writes_after WriteFault = Rose writes_before writes_after
 IsRunAnswer reads_before reads_after writes_before writes_after _ = ⊥
+
+-- What a simulation of a netlist with these data inputs may end in, each answer with its cause. Here
+-- the stimulus is as it was before its header was read.
+abbrev pub SimulationCause : List DataInput → Option (List ℕ) → ℕ → ℕ → ℕ → ℕ → Status → Type 0
+SimulationCause inputs text reads_before reads_after writes_before writes_after Done = ⊤
+SimulationCause inputs text reads_before reads_after writes_before writes_after (Stimulus why) = RefusesIfTold inputs text why
+SimulationCause inputs text reads_before reads_after writes_before writes_after ReadFault = Rose reads_before reads_after
+SimulationCause inputs text reads_before reads_after writes_before writes_after WriteFault = Rose writes_before writes_after
+SimulationCause inputs text reads_before reads_after writes_before writes_after NoMemory = ⊤
+SimulationCause inputs text reads_before reads_after writes_before writes_after _ = ⊥
+
+-- what stands of the trace after it
+abbrev pub SimulationLeaves : Option (List ℕ) → Option (List ℕ) → Status → Type 0
+SimulationLeaves old new (Stimulus refusal.Header) = Keeps old new
+SimulationLeaves old new NoMemory = Keeps old new
+SimulationLeaves old new _ = (bytes : List ℕ) × Appends old new bytes
+
+-- what reading the header may end in, each answer with its cause
+abbrev pub BeginCause : List DataInput → Option (List ℕ) → ℕ → ℕ → Status → Type 0
+BeginCause inputs text reads_before reads_after (Stimulus refusal.Header) = RefusesIfTold inputs text refusal.Header
+BeginCause inputs text reads_before reads_after ReadFault = Rose reads_before reads_after
+BeginCause inputs text reads_before reads_after NoMemory = ⊤
+BeginCause inputs text reads_before reads_after _ = ⊥

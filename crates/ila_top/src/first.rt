@@ -1,5 +1,6 @@
 //! The plainest netlists: one module of scalar nets, gates `and`, `or`, `xor` and `not`, and FDRE.
 
+pub mod data;
 pub mod inputs;
 pub mod keywords;
 pub mod logic;

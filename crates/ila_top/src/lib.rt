@@ -9,7 +9,11 @@ mod form;
 mod line;
 mod load;
 mod run;
+mod sim;
+mod simulate;
 mod status;
+mod top;
 
 pub use ending::{exit_code, report};
 pub use status::Status;
+pub use top::ila;

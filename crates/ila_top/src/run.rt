@@ -4,7 +4,8 @@ ghost use Rattle.ila_base.specs.Faults.{Rose};
 ghost use Rattle.ila_base.specs.declared.refusal.StimRefusal.{StimRefusal};
 ghost use Rattle.stim_read.specs.declared.inputs.DataInput.{DataInput};
 ghost use Rattle.stim_read.specs.Reading.{rest};
-ghost use Rattle.ila_top.specs.Rows.{IsAheadIfTold, RefusesIfTold, IsRunAnswer, IsDrained};
+ghost use Rattle.stim_read.specs.Streams.{IsDrained};
+ghost use Rattle.ila_top.specs.Rows.{IsAheadIfTold, RefusesIfTold, IsRunAnswer};
 
 use crate::first::netlist::Netlist;
 use crate::first::outputs::fill_line;
@@ -27,7 +28,7 @@ pub fn run<S: Source, K: Sink>(
     ensures answers { IsRunAnswer (S.faults stimulus.old) (S.faults stimulus.new) (K.faults trace.old) (K.faults trace.new) result }
     ensures refused { (inputs : List DataInput) (text : Option (List ℕ)) (why : StimRefusal) → IsAheadIfTold inputs text stim.old (rest stim.old (S.left stimulus.old))
         → result ≡ Status.Stimulus why → RefusesIfTold inputs text why }
-    ensures done { result ≡ Status.Done → IsDrained stim.old (S.left stimulus.old) → IsAtEnd (S.left stimulus.new) }
+    ensures done { result ≡ Status.Done → IsDrained stim.old.ended (S.left stimulus.old) → IsAtEnd (S.left stimulus.new) }
     ensures gained { (bytes : List ℕ) × Appends (K.written trace.old) (K.written trace.new) bytes }
     ensures read_later { S.faults stimulus.old ≤ S.faults stimulus.new }
     ensures write_later { K.faults trace.old ≤ K.faults trace.new }

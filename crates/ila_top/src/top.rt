@@ -1,0 +1,41 @@
+ghost use Rattle.std.specs.Prelude.{◌≡◌, ◌≤◌, [], map, string_bytes};
+ghost use Rattle.ila_top.specs.Answers.{Cause, Stands, IsReported};
+
+use crate::ending::report;
+use crate::form::sim_of;
+use crate::sim::sim;
+use crate::status::Status;
+use ila_base::{Shelf, Sink, Source};
+use std::alloc::Global;
+
+/// Does what the words say, which are those of the command line behind the program's name: `sim
+/// NETLIST TOP CLOCK` simulates a netlist over the stimulus and writes its outputs to the trace. For
+/// each status but Done a line goes to the error sink, whose faults change no status.
+pub fn ila<H: Shelf, S: Source, K: Sink, E: Sink>(
+    alloc: Global,
+    words: &[String],
+    shelf: &mut H,
+    stimulus: &mut S,
+    trace: &mut K,
+    errors: &mut E,
+) -> Status
+    // Each answer comes only with its cause, Usage exactly where the words are of no command.
+    ensures cause { Cause (map string_bytes words.now)
+        (record { files = H.files shelf.old; shelf_faults = H.faults shelf.old; left = S.left stimulus.old; read_faults = S.faults stimulus.old; written = K.written trace.old; write_faults = K.faults trace.old })
+        (record { files = H.files shelf.new; shelf_faults = H.faults shelf.new; left = S.left stimulus.new; read_faults = S.faults stimulus.new; written = K.written trace.new; write_faults = K.faults trace.new })
+        result }
+    // What stands of files, stimulus and trace after each answer.
+    ensures stands { Stands
+        (record { files = H.files shelf.old; shelf_faults = H.faults shelf.old; left = S.left stimulus.old; read_faults = S.faults stimulus.old; written = K.written trace.old; write_faults = K.faults trace.old })
+        (record { files = H.files shelf.new; shelf_faults = H.faults shelf.new; left = S.left stimulus.new; read_faults = S.faults stimulus.new; written = K.written trace.new; write_faults = K.faults trace.new })
+        result }
+    // The error line, whole where the error sink has no fault.
+    ensures line { IsReported (E.written errors.old) (E.written errors.new) (E.faults errors.old) (E.faults errors.new) result [] }
+    ensures later { E.faults errors.old ≤ E.faults errors.new }
+{
+    let status = match sim_of(words) {
+        Some(words) => sim(alloc, &words, shelf, stimulus, trace),
+        None => Status::Usage,
+    };
+    report(errors, status)
+}
