@@ -9,6 +9,8 @@ mod layout;
 mod line_reader;
 mod row;
 mod stim;
+#[cfg(test)]
+mod tests;
 
 pub use faults::{StimFault, StimStop};
 pub use inputs::{DataInput, Field};
