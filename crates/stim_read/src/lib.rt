@@ -5,6 +5,7 @@
 mod faults;
 mod header;
 mod inputs;
+mod laws;
 mod layout;
 mod line_reader;
 mod row;
@@ -14,4 +15,5 @@ mod tests;
 
 pub use faults::{StimFault, StimStop};
 pub use inputs::{DataInput, Field};
+pub use laws::rows_are_one;
 pub use stim::Stim;
