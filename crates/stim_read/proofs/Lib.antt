@@ -10,3 +10,4 @@ pub mod Stand
 pub mod Rooms
 pub mod Answered
 pub mod Begun
+pub mod Once

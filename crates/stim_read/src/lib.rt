@@ -5,11 +5,15 @@
 mod faults;
 mod header;
 mod inputs;
+mod laws;
 mod layout;
 mod line_reader;
 mod row;
 mod stim;
+#[cfg(test)]
+mod tests;
 
 pub use faults::{StimFault, StimStop};
 pub use inputs::{DataInput, Field};
+pub use laws::rows_are_one;
 pub use stim::Stim;
