@@ -3,6 +3,5 @@ pub mod Gains
 pub mod Lines
 pub mod RowLaws
 pub mod Seen
-pub mod SimLaws
 pub mod Simulation
 pub mod Words

@@ -17,3 +17,6 @@ mod top;
 pub use ending::{exit_code, report};
 pub use status::Status;
 pub use top::ila;
+
+#[cfg(test)]
+mod tests;

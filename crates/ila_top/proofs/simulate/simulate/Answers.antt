@@ -1,5 +1,5 @@
 use Rattle.ila_top.proofs.Gains.{gains_none, gains_then, gains_written}
-use Rattle.ila_top.proofs.Simulation.{cause_begin, leaves_begin, not_done, cause_run, leaves_run}
+use Rattle.ila_top.proofs.Simulation.{leaves_run}
 use Rattle.ila_top.proofs.simulate.simulate.Goals as goal
 
 pub returns-clause-leaves : goal.returns-clause-leaves

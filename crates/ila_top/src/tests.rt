@@ -1,0 +1,247 @@
+use crate::line::write_error;
+use crate::{Status, exit_code, ila};
+use ila_base::{
+    Items, LimitKind, MemShelf, MemSink, MemSource, Name, NetRefusal, Place, ProjRefusal,
+    ResRefusal, SetRefusal, StimRefusal, TsmRefusal,
+};
+use std::alloc::Global;
+use std::test::Fail;
+
+const TOGGLE: &[u8] = b"module tog (clk, x, y); input clk; input x; output y; wire d;\n\
+    FDRE r (.C(clk), .CE(1'b1), .D(d), .Q(y), .R(1'b0)); xor (d, x, y); endmodule\n";
+
+// What a call of `ila` is given, and what it must answer: the words, the numbers of the failing
+// calls of shelf, source and sink, the stimulus; the trace, the error line and the exit status.
+struct Row {
+    words: &'static [&'static str],
+    fails: [&'static [u32]; 3],
+    stimulus: &'static [u8],
+    trace: &'static [u8],
+    line: &'static [u8],
+    exit: u8,
+}
+
+const SIM: &[&str] = &["sim", "tog.v", "tog", "clk"];
+
+const NO_FAILS: [&[u32]; 3] = [&[], &[], &[]];
+
+const ROWS: [Row; 11] = [
+    Row {
+        words: SIM,
+        fails: NO_FAILS,
+        stimulus: b"x\n1\n0\n1\n1\n",
+        trace: b"y\n0\n1\n1\n0\n",
+        line: b"",
+        exit: 0,
+    },
+    Row {
+        words: &["sim", "none.v", "tog", "clk"],
+        fails: NO_FAILS,
+        stimulus: b"x\n1\n",
+        trace: b"",
+        line: b"ila: no file none.v\n",
+        exit: 12,
+    },
+    Row {
+        words: SIM,
+        fails: NO_FAILS,
+        stimulus: b"x\n1\n2\n1\n1\n",
+        trace: b"y\n0\n",
+        line: b"ila: S2 3\n",
+        exit: 7,
+    },
+    Row {
+        words: SIM,
+        fails: NO_FAILS,
+        stimulus: b"",
+        trace: b"",
+        line: b"ila: S1\n",
+        exit: 7,
+    },
+    Row {
+        words: &["insert"],
+        fails: NO_FAILS,
+        stimulus: b"x\n1\n",
+        trace: b"",
+        line: b"ila: usage\n",
+        exit: 1,
+    },
+    Row {
+        words: &["sim", "tog.v", "tog", "x", "more"],
+        fails: NO_FAILS,
+        stimulus: b"x\n1\n",
+        trace: b"",
+        line: b"ila: usage\n",
+        exit: 1,
+    },
+    Row {
+        words: &["sim", "tog.v", "other", "clk"],
+        fails: NO_FAILS,
+        stimulus: b"x\n1\n",
+        trace: b"",
+        line: b"ila: N3 1:1\n",
+        exit: 2,
+    },
+    Row {
+        words: SIM,
+        fails: [&[0], &[], &[]],
+        stimulus: b"x\n1\n",
+        trace: b"",
+        line: b"ila: file fault\n",
+        exit: 8,
+    },
+    Row {
+        words: SIM,
+        fails: [&[], &[1], &[]],
+        stimulus: b"x\n1\n1\n1\n",
+        trace: b"y\n0\n",
+        line: b"ila: read fault\n",
+        exit: 9,
+    },
+    Row {
+        words: SIM,
+        fails: [&[], &[], &[1]],
+        stimulus: b"x\n1\n1\n",
+        trace: b"y\n",
+        line: b"ila: write fault\n",
+        exit: 10,
+    },
+    Row {
+        words: SIM,
+        fails: NO_FAILS,
+        stimulus: b"x\r\n1\r\n0",
+        trace: b"y\n0\n1\n",
+        line: b"",
+        exit: 0,
+    },
+];
+
+fn texts(alloc: Global, words: &[&str]) -> Result<Vec<String>, Fail> {
+    let mut texts = Vec::new(alloc);
+    for word in words {
+        texts.push(String::from_str(alloc, word)?)?;
+    }
+    Ok(texts)
+}
+
+#[test]
+fn commands_over_memory(rt: HostRuntime) -> Result<(), Fail> {
+    let alloc = rt.alloc();
+    for (at, row) in ROWS.iter().enumerate() {
+        let [shelf_fails, read_fails, write_fails] = row.fails;
+        let toggle = Vec::from_slice(alloc, TOGGLE)?;
+        let files = vec![in alloc; (Name::new(alloc, b"tog.v")?, toggle)]?;
+        let mut shelf = MemShelf::new(files, Vec::from_slice(alloc, shelf_fails)?);
+        let bytes = Vec::from_slice(alloc, row.stimulus)?;
+        let mut stimulus = MemSource::new(bytes, 4, Vec::from_slice(alloc, read_fails)?);
+        let fails = Vec::from_slice(alloc, write_fails)?;
+        let mut trace = MemSink::new(alloc, 64, 1000, fails)?;
+        let mut errors = MemSink::new(alloc, 3, 1000, Vec::new(alloc))?;
+        let words = texts(alloc, row.words)?;
+        let status = ila(
+            alloc,
+            words.as_slice(),
+            &mut shelf,
+            &mut stimulus,
+            &mut trace,
+            &mut errors,
+        );
+        assert_eq!(rt; exit_code(&status), row.exit, "row {at}");
+        assert_eq!(rt; trace.bytes(), row.trace, "row {at}");
+        assert_eq!(rt; errors.bytes(), row.line, "row {at}");
+    }
+    Ok(())
+}
+
+// A status, the name of its core, and its line.
+fn lines(alloc: Global) -> Result<Vec<(Status, &'static [u8])>, Fail> {
+    let place = Place { line: 3, col: 14 };
+    let name = || Name::new(alloc, b"q[4]");
+    let mut loops = Items::new(alloc);
+    loops.push(Name::new(alloc, b"q")?)?;
+    loops.push(Name::new(alloc, b"n")?)?;
+    let width = NetRefusal::Width { want: 2, have: 1 };
+    let limit = NetRefusal::Limit(LimitKind::Nesting, 33);
+    let terms = ResRefusal::Terms {
+        state: 0,
+        cond: 0,
+        count: 18,
+    };
+    let shape = SetRefusal::Shape {
+        field: 0,
+        file: 8,
+        core: 16,
+    };
+    let rows: Vec<(Status, &'static [u8])> = vec![in alloc;
+        (Status::Done, b"".as_slice()),
+        (
+            Status::Netlist(NetRefusal::Construct(name()?), place),
+            b"ila: N2 3:14 q[4]\n".as_slice()
+        ),
+        (
+            Status::Netlist(width, place),
+            b"ila: N8 3:14 2 1\n".as_slice()
+        ),
+        (
+            Status::Netlist(NetRefusal::TopOrClock(name()?), Place::NOWHERE),
+            b"ila: N13 q[4]\n".as_slice()
+        ),
+        (
+            Status::Netlist(NetRefusal::XZ, place),
+            b"ila: N16 3:14\n".as_slice()
+        ),
+        (
+            Status::Netlist(limit, place),
+            b"ila: N17 Nesting 33\n".as_slice()
+        ),
+        (
+            Status::Netlist(NetRefusal::Loop(loops), Place::NOWHERE),
+            b"ila: N18 q n\n".as_slice()
+        ),
+        (
+            Status::Project(ProjRefusal::NotToml),
+            b"ila: P1\n".as_slice()
+        ),
+        (
+            Status::Project(ProjRefusal::BadValue(Name::new(alloc, b"")?)),
+            b"ila: P5\n".as_slice()
+        ),
+        (
+            Status::Project(ProjRefusal::NameTaken(name()?)),
+            b"ila: P10 q[4]\n".as_slice()
+        ),
+        (
+            Status::Tsm(0, TsmRefusal::UnknownState, place),
+            b"ila: Q4 c0 3:14\n".as_slice()
+        ),
+        (
+            Status::Resource(0, ResRefusal::States(17)),
+            b"ila: M1 c0 17\n".as_slice()
+        ),
+        (
+            Status::Resource(0, terms),
+            b"ila: M3 c0 0 0 18\n".as_slice()
+        ),
+        (
+            Status::Settings(SetRefusal::Form(0)),
+            b"ila: W1 0\n".as_slice()
+        ),
+        (Status::Settings(shape), b"ila: W2 0 8 16\n".as_slice()),
+        (
+            Status::Stimulus(StimRefusal::Limit(4_294_967_295)),
+            b"ila: S3 4294967295\n".as_slice()
+        ),
+        (Status::NoMemory, b"ila: no memory\n".as_slice()),
+    ]?;
+    Ok(rows)
+}
+
+#[test]
+fn error_lines(rt: HostRuntime) -> Result<(), Fail> {
+    for (status, line) in &lines(rt.alloc())? {
+        let mut errors = MemSink::new(rt.alloc(), 64, 1000, Vec::new(rt.alloc()))?;
+        let _ = write_error(&mut errors, status, b"c0");
+        assert_eq!(rt; errors.bytes(), *line);
+    }
+    Ok(())
+}
