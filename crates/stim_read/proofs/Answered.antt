@@ -103,7 +103,7 @@ refuses_any taken IsGood (Limit number) refused bad = refused
 -- A line that is too long is refused.
 pub refuses_long : (old : Reading) (known : Option (List ℕ)) (most : ℕ) (why : StimRefusal) → HasLongLine most known
     → sum_by (λ field. digits_of field.width + 1) old.fields ≤ most → 1 ≤ most → RefusesLine old.taken ⊥ why → Refuses old known why
-refuses_long old None most why long room some refused = tt
+refuses_long old None most why long room some refused = refused
 refuses_long old (Some bytes) most why (piece, more, clean, cut, over) room some refused =
     let first = long_first most bytes piece more clean cut over in (
       first.line,
@@ -113,10 +113,16 @@ refuses_long old (Some bytes) most why (piece, more, clean, cut, over) room some
           (λ row. absurd (omega (arith, row_short old.fields (length old.bits) first.line row.0 most room some row.1, first.long))),
     )
 
+-- What is refused of a line, without the line.
+refuses_untold : (taken : ℕ) (IsGood : Type 0) (why : StimRefusal) → RefusesLine taken IsGood why → RefusesLine taken ⊥ why
+refuses_untold taken IsGood Header refused = refused
+refuses_untold taken IsGood (Line number) refused = (refused.0, refused.1, λ none. none)
+refuses_untold taken IsGood (Limit number) refused = refused
+
 -- A line that is no row is refused.
 pub refuses_line : (old : Reading) (known after : Option (List ℕ)) (line : List ℕ) (why : StimRefusal) → TakesLine known line after
     → RefusesLine old.taken (IsSomeRow old.fields (length old.bits) line) why → Refuses old known why
-refuses_line old None after line why first refused = tt
+refuses_line old None after line why first refused = refuses_untold old.taken (IsSomeRow old.fields (length old.bits) line) why refused
 refuses_line old (Some bytes) None line why first refused = absurd first
 refuses_line old (Some bytes) (Some behind) line why first refused = (line, lines behind, first, refused)
 

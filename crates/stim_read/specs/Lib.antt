@@ -3,3 +3,4 @@ pub mod Words
 pub mod Numbers
 pub mod Streams
 pub mod Reading
+pub mod RowLaws

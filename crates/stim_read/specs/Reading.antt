@@ -45,9 +45,9 @@ RefusesLine taken IsGood Header = ⊥
 RefusesLine taken IsGood (Line number) = (number ≡ taken + 2) × (taken < most_rows) × (IsGood → ⊥)
 RefusesLine taken IsGood (Limit number) = (number ≡ most_rows) × (taken ≡ most_rows)
 
--- Where the rest is told, its first line is refused.
+-- The first line of the rest is refused, which is told where the rest is.
 abbrev pub Refuses : Reading → Option (List ℕ) → StimRefusal → Type 0
-Refuses old None why = ⊤
+Refuses old None why = RefusesLine old.taken ⊥ why
 Refuses old (Some bytes) why = (line : List ℕ) × (more : List (List ℕ)) × (lines bytes ≡ line ∷ more)
     × RefusesLine old.taken (IsSomeRow old.fields (length old.bits) line) why
 

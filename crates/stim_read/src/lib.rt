@@ -15,5 +15,5 @@ mod tests;
 
 pub use faults::{StimFault, StimStop};
 pub use inputs::{DataInput, Field};
-pub use laws::rows_are_one;
+pub use laws::{rows_are_one, rows_are_taken};
 pub use stim::Stim;

@@ -1,7 +1,7 @@
 ghost use Rattle.std.specs.Prelude.{◌≡◌, ◌≤◌, IfOk};
 ghost use Rattle.stim_read.specs.Stimulus.{AreNames, names_of};
 
-use crate::{DataInput, Stim, StimFault, StimStop};
+use crate::{DataInput, Stim, StimFault, StimStop, rows_are_one, rows_are_taken};
 use ila_base::{MemSource, Name, NoMemory, StimRefusal};
 use std::alloc::Global;
 use std::test::Fail;
@@ -108,4 +108,10 @@ fn texts_without_a_header(rt: HostRuntime) -> Result<(), Fail> {
         assert_eq!(rt; begun.err(), Some(StimStop::Refused(StimRefusal::Header)));
     }
     Ok(())
+}
+
+#[test]
+fn laws_hold() {
+    rows_are_one();
+    rows_are_taken();
 }
