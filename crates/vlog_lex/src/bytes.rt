@@ -2,7 +2,7 @@ ghost use Rattle.std.specs.Prelude.{◌≡◌};
 ghost use Rattle.vlog_lex.specs.Bytes.{is_blank, is_letter, is_digit, is_name_byte, is_number_byte, is_printable, is_newline, is_mark, is_operator, class_of, class_of_other};
 
 /// What a byte outside comments, strings and names may begin.
-#[derive(Clone, Copy, Debug, PartialEq, Eq)]
+#[derive(Clone, Copy, Debug)]
 pub enum Class {
     /// White space (IEEE 1364-2005, 3.2).
     Blank,

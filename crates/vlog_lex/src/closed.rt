@@ -1,8 +1,9 @@
 ghost use Rattle.std.specs.Prelude.{◌≡◌, ◌≤◌, length, IfSome};
+ghost use Rattle.vlog_lex.specs.declared.closed.Inside.TheVariants.{Comment, Attribute};
 ghost use Rattle.vlog_lex.specs.Closed.{next_step, closed_length};
 
 /// Inside what a byte stands, in what has an end of its own.
-#[derive(Clone, Copy, Debug, PartialEq, Eq)]
+#[derive(Clone, Copy, Debug)]
 pub enum Inside {
     /// A block comment (IEEE 1364-2005, 3.3).
     Comment,
@@ -23,25 +24,43 @@ pub enum Inside {
 }
 
 /// What a byte does to what it stands in.
-#[derive(Clone, Copy, Debug, PartialEq, Eq)]
+#[derive(Clone, Copy, Debug)]
 pub enum Step {
+    /// What follows stands in it too.
     Goes(Inside),
+    /// It ends with the byte.
     Closes,
+    /// It can't have the byte, so it has no end.
     Breaks,
+}
+
+fn comment_step(byte: u8) -> Step
+    ensures { result ≡ next_step Comment byte }
+{
+    match byte {
+        b'*' => Step::Goes(Inside::CommentStar),
+        _ => Step::Goes(Inside::Comment),
+    }
+}
+
+fn attribute_step(byte: u8) -> Step
+    ensures { result ≡ next_step Attribute byte }
+{
+    match byte {
+        b'"' => Step::Goes(Inside::AttributeText),
+        b'*' => Step::Goes(Inside::AttributeStar),
+        _ => Step::Goes(Inside::Attribute),
+    }
 }
 
 fn next_step(inside: Inside, byte: u8) -> Step
     ensures { result ≡ next_step inside byte }
 {
     match inside {
-        Inside::Comment => match byte {
-            b'*' => Step::Goes(Inside::CommentStar),
-            _ => Step::Goes(Inside::Comment),
-        },
+        Inside::Comment => comment_step(byte),
         Inside::CommentStar => match byte {
             b'/' => Step::Closes,
-            b'*' => Step::Goes(Inside::CommentStar),
-            _ => Step::Goes(Inside::Comment),
+            _ => comment_step(byte),
         },
         Inside::Text => match byte {
             b'"' => Step::Closes,
@@ -50,16 +69,10 @@ fn next_step(inside: Inside, byte: u8) -> Step
             _ => Step::Goes(Inside::Text),
         },
         Inside::TextEscape => Step::Goes(Inside::Text),
-        Inside::Attribute => match byte {
-            b'"' => Step::Goes(Inside::AttributeText),
-            b'*' => Step::Goes(Inside::AttributeStar),
-            _ => Step::Goes(Inside::Attribute),
-        },
+        Inside::Attribute => attribute_step(byte),
         Inside::AttributeStar => match byte {
             b')' => Step::Closes,
-            b'"' => Step::Goes(Inside::AttributeText),
-            b'*' => Step::Goes(Inside::AttributeStar),
-            _ => Step::Goes(Inside::Attribute),
+            _ => attribute_step(byte),
         },
         Inside::AttributeText => match byte {
             b'"' => Step::Goes(Inside::Attribute),

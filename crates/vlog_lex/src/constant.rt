@@ -9,7 +9,7 @@ use crate::token::{Flaw, Piece, TokenKind};
 use ila_base::Word;
 
 /// The part of a sized constant behind the number of its width (IEEE 1364-2005, 3.5.1).
-#[derive(Clone, Copy, Debug, PartialEq, Eq)]
+#[derive(Clone, Copy, Debug)]
 pub struct Suffix {
     /// The base: 2, 8, 10 or 16.
     pub base: u8,
@@ -18,6 +18,9 @@ pub struct Suffix {
     /// How many bytes stand between the number and the end of the digits.
     pub end: usize,
 }
+
+/// An unsized number from here on is too large, and a width from here on is told by this number.
+const TOO_LARGE: u64 = 4_294_967_296;
 
 fn are_underscores(digits: &[u8]) -> bool
     ensures { result ≡ list_all is_underscore digits.now }
@@ -31,6 +34,7 @@ fn has_unknown(digits: &[u8]) -> bool
     digits.iter().any(|byte| is_unknown(*byte))
 }
 
+/// The white space and digits behind the base of a constant, if one of them is a digit.
 fn digits_at(base: u8, behind: usize, text: &[u8]) -> Option<Suffix>
     requires positive { 0 < base }
     requires room { behind + length text.now < 2 ^ 64 }
@@ -50,6 +54,7 @@ fn digits_at(base: u8, behind: usize, text: &[u8]) -> Option<Suffix>
     })
 }
 
+/// The quote and what follows it, behind blanks, if that is of a constant.
 fn suffix_behind(blanks: usize, text: &[u8]) -> Option<Suffix>
     requires { blanks + length text.now < 2 ^ 64 }
     ensures value { result ≡ suffix_behind blanks text.now }
@@ -78,21 +83,23 @@ fn capped_value(number: &[u8]) -> u64
     ensures { result ≡ capped (value 10 number.now) }
 {
     match value(10, number) {
-        Some(all) if all < 4_294_967_296 => all as u64,
-        _ => 4_294_967_296,
+        Some(all) if all < u128::from(TOO_LARGE) => all as u64,
+        _ => TOO_LARGE,
     }
 }
 
+/// The number of so many bytes.
 fn whole_piece(number: u64, count: usize) -> Piece
     requires { number ≤ 4294967296 }
     ensures { result ≡ whole_piece number count }
 {
-    if number == 4_294_967_296 {
+    if number == TOO_LARGE {
         return Piece::Refused(Flaw::Constant(number));
     }
     Piece::Token(TokenKind::Number(number as u32), count)
 }
 
+/// The constant of so many bytes.
 fn constant_piece(width: u64, base: u8, digits: &[u8], count: usize) -> Piece
     requires { 0 < base }
     ensures { result ≡ constant_piece width base digits.now count }
@@ -105,6 +112,7 @@ fn constant_piece(width: u64, base: u8, digits: &[u8], count: usize) -> Piece
     }
     match value(base, digits) {
         Some(all) => Piece::Token(TokenKind::Sized(cut(width as u8, all)), count),
+        // The digits need 129 bits or more.
         None => Piece::Refused(Flaw::Constant(129)),
     }
 }
@@ -123,6 +131,7 @@ fn cut(width: u8, value: u128) -> Word
     }
 }
 
+/// The number that what follows makes a constant, or leaves a number.
 fn number_with(width: u64, count: usize, behind: &[u8], suffix: Option<Suffix>) -> Piece
     requires width { width ≤ 4294967296 }
     requires room { count + length behind.now < 2 ^ 64 }

@@ -28,6 +28,7 @@ fn is_endif(text: &[u8]) -> bool
     ends_word(&text[6..])
 }
 
+/// How far it is to the first such directive.
 fn first_endif(text: &[u8]) -> Option<usize>
     ensures value { result ≡ first_at is_endif text.now }
     ensures within { IfSome result (λ n. n + 6 ≤ length text.now) }
@@ -54,6 +55,7 @@ pub fn last_endif(text: &[u8]) -> usize
     last
 }
 
+/// The same behind so many blanks.
 fn glbl_behind(blanks: usize, text: &[u8], closes: bool) -> Option<usize>
     requires room { blanks + length text.now < 2 ^ 64 }
     requires none { closes ≡ false → first_at is_endif (drop 4 text.now) ≡ None }
@@ -80,6 +82,7 @@ fn glbl_length(text: &[u8], closes: bool) -> Option<usize>
     glbl_behind(blanks, &text[blanks..], closes)
 }
 
+/// The part that goes on so far behind its directive, or the directive alone.
 fn part_piece(count: usize, part: Option<usize>) -> Piece
     requires { IfSome part (λ n. count + n < 2 ^ 64) }
     ensures { result ≡ part_piece count part }
@@ -90,6 +93,7 @@ fn part_piece(count: usize, part: Option<usize>) -> Piece
     }
 }
 
+/// The directive of the word, with what it skips.
 fn directive_with(count: usize, word: &[u8], behind: &[u8], closes: bool) -> Piece
     requires room { count + 1 + length behind.now < 2 ^ 64 }
     requires none { closes ≡ false → (at : ℕ) → is_endif (drop at behind.now) ≡ false }

@@ -59,7 +59,7 @@ pub enum NetStop {
 }
 
 /// What keeps a piece of text from being cut off.
-#[derive(Clone, Copy, Debug, PartialEq, Eq)]
+#[derive(Clone, Copy, Debug)]
 pub enum Flaw {
     /// Nothing begins here.
     BadByte,
@@ -86,7 +86,7 @@ impl Flaw {
 }
 
 /// A piece that a text begins with, and how many bytes it has.
-#[derive(Clone, Copy, Debug, PartialEq, Eq)]
+#[derive(Clone, Copy, Debug)]
 pub enum Piece {
     /// White space, a comment, an attribute or a directive that is skipped.
     Skip(usize),
