@@ -1,0 +1,15 @@
+pub mod ClassLaws
+pub mod ClosedLaws
+pub mod ConstantLaws
+pub mod CuttingLaws
+pub mod Found
+pub mod LexemeLaws
+pub mod NameLaws
+pub mod PieceLaws
+pub mod RunLaws
+pub mod Searches
+pub mod SettleLaws
+pub mod SkipLaws
+pub mod StepLaws
+pub mod TokenLaws
+pub mod Values

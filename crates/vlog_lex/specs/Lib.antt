@@ -1,0 +1,11 @@
+pub mod Bytes
+pub mod Closed
+pub mod Construct
+pub mod Cutting
+pub mod Numbers
+pub mod Pieces
+pub mod Reading
+pub mod Refusals
+pub mod Runs
+pub mod Skipped
+pub mod Taking

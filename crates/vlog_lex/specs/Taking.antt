@@ -1,0 +1,21 @@
+-- What a piece adds to the tokens.
+use Rattle.std.specs.Prelude.{◌≡◌, ℕ, ◌+◌, List, [], ◌∷◌, ◌++◌}
+use Rattle.ila_base.specs.declared.place.Place.{Place}
+use Rattle.vlog_lex.specs.declared.token.Token.{Token as TokenOf}
+use Rattle.vlog_lex.specs.declared.token.NetFault.{NetFault}
+use Rattle.vlog_lex.specs.declared.token.Piece.{Piece}
+use Rattle.vlog_lex.specs.declared.token.Piece.TheVariants.{Skip, Token, Refused}
+use Rattle.vlog_lex.specs.Cutting.{refusal_of}
+
+-- a piece with so many bytes is skipped, or is a token that comes behind the others
+abbrev pub IsTaken : ℕ → Place → Piece → ℕ → List TokenOf → List TokenOf → Type 0
+IsTaken at place (Skip n) count old new = (count ≡ n) × (new ≡ old)
+IsTaken at place (Token kind n) count old new = (count ≡ n)
+    × (new ≡ old ++ record { kind = kind; place = place; start = at; end = at + n } ∷ [])
+IsTaken at place (Refused flaw) count old new = ⊥
+
+-- the piece is a flaw, and this is its fault
+abbrev pub IsFlawAt : Place → Piece → NetFault → Type 0
+IsFlawAt place (Skip n) fault = ⊥
+IsFlawAt place (Token kind n) fault = ⊥
+IsFlawAt place (Refused flaw) fault = fault ≡ record { refusal = refusal_of flaw; place = place }

@@ -1,0 +1,63 @@
+ghost use Rattle.std.specs.Prelude.{◌≡◌, ℕ, List, [], ◌+◌, ◌^◌, ◌<◌, ◌≤◌, Some, None, length, IfOk, IfErr};
+ghost use Rattle.vlog_lex.specs.declared.token.Token.{Token as TokenOf};
+ghost use Rattle.vlog_lex.specs.Cutting.{Cuts, StopsFor};
+ghost use Rattle.vlog_lex.specs.Reading.{bytes_of};
+ghost use Rattle.vlog_lex.specs.Taking.{IsTaken, IsFlawAt};
+
+use crate::directive::last_endif;
+use crate::piece::piece_at;
+use crate::place::place_behind;
+use crate::token::{NetFault, NetStop, Piece, Token};
+use ila_base::Place;
+use std::alloc::Global;
+
+/// Adds the token that a piece is, if it is one, and gives the count of the piece's bytes.
+fn take_piece(
+    tokens: &mut Vec<Token>,
+    at: usize,
+    place: Place,
+    piece: Piece,
+) -> Result<usize, NetStop>
+    requires { at + bytes_of piece < 2 ^ 32 }
+    ensures taken { IfOk result (λ count. IsTaken at place piece count tokens.old.items tokens.new.items) }
+    ensures refused { IfErr result (StopsFor (IsFlawAt place piece)) }
+{
+    match piece {
+        Piece::Skip(count) => Ok(count),
+        Piece::Token(kind, count) => {
+            let start = at as u32;
+            let end = (at + count) as u32;
+            tokens.push(Token {
+                kind,
+                place,
+                start,
+                end,
+            })?;
+            Ok(count)
+        }
+        Piece::Refused(flaw) => Err(NetStop::Refused(NetFault {
+            refusal: flaw.refusal(),
+            place,
+        })),
+    }
+}
+
+/// The tokens of a text, each `#` as a mark.
+pub fn cut(alloc: Global, text: &[u8]) -> Result<Vec<Token>, NetStop>
+    requires { length text.now ≤ 67108864 }
+    ensures found { IfOk result (λ tokens. Cuts [] text.now tokens.items None) }
+    ensures refused { IfErr result (StopsFor (λ fault. (tokens : List TokenOf) × Cuts [] text.now tokens (Some fault))) }
+{
+    let closing = last_endif(text);
+    let mut tokens = Vec::new(alloc);
+    let mut place = Place { line: 1, col: 1 };
+    let mut at = 0;
+    while at < text.len() {
+        let rest = &text[at..];
+        let piece = piece_at(rest, at < closing);
+        let count = take_piece(&mut tokens, at, place, piece)?;
+        place = place_behind(place, &rest[..count]);
+        at += count;
+    }
+    Ok(tokens)
+}
