@@ -1,0 +1,5 @@
+pub mod CellTable
+pub mod Netlist
+pub mod WellFormed
+pub mod Run
+pub mod Cycle

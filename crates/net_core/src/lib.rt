@@ -1,0 +1,8 @@
+//! Flat netlists: what they consist of, what a run of one is, and what a machine over one answers.
+#![tactic(auto)]
+
+mod kind;
+mod parts;
+
+pub use kind::{CellKind, GateCode};
+pub use parts::{Cell, CellId, Group, NetId, Pin, Port};
