@@ -2,7 +2,10 @@
 #![tactic(auto)]
 
 mod kind;
+mod machine;
+mod names;
 mod parts;
 
 pub use kind::{CellKind, GateCode};
+pub use machine::Machine;
 pub use parts::{Cell, CellId, Group, NetId, Pin, Port};
