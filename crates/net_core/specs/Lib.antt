@@ -3,3 +3,4 @@ pub mod Netlist
 pub mod WellFormed
 pub mod Run
 pub mod Cycle
+pub mod Lookup

@@ -1,11 +1,13 @@
 //! Flat netlists: what they consist of, what a run of one is, and what a machine over one answers.
 #![tactic(auto)]
 
+mod flat;
 mod kind;
 mod machine;
 mod names;
 mod parts;
 
+pub use flat::Flat;
 pub use kind::{CellKind, GateCode};
 pub use machine::Machine;
 pub use parts::{Cell, CellId, Group, NetId, Pin, Port};
