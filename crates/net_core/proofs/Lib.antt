@@ -1,1 +1,4 @@
+pub mod ListLemmas
 pub mod TableLemmas
+pub mod LookupLemmas
+pub mod BitNameLemmas

@@ -122,8 +122,8 @@ pub record IsWellFormed (parts : Parts) : Type 0 where
 pub record HasTables (net : Netlist) : Type 0 where
   pub clocked_size : length net.clocked ≡ net_count net.groups
   pub driven_size : length net.driven ≡ net_count net.groups
-  pub clocked : (n : ℕ) → n < net_count net.groups → (is_clock net n ≡ true) ↔ IsClock (parts_of net) n
-  pub driven : (n : ℕ) → n < net_count net.groups → (is_driven net n ≡ true) ↔ IsDriven (parts_of net) n
+  pub clocked : (n : ℕ) → (is_clock net n ≡ true) ↔ IsClock (parts_of net) n
+  pub driven : (n : ℕ) → (is_driven net n ≡ true) ↔ IsDriven (parts_of net) n
 
 pub record IsFlat (net : Netlist) : Type 0 where
   pub formed : IsWellFormed (parts_of net)

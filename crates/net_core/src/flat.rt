@@ -1,4 +1,4 @@
-ghost use Rattle.std.specs.Prelude.{◌≡◌, ◌↔◌, IsTrue, IfSome, IfNone};
+ghost use Rattle.std.specs.Prelude.{◌≡◌, ◌↔◌, IsTrue, IfSome, IfNone, slice_get, option_copied};
 ghost use Rattle.net_core.specs.Netlist.{parts_of, is_clock, is_driven, IsClock, IsDriven};
 ghost use Rattle.net_core.specs.WellFormed.{IsFlat};
 ghost use Rattle.net_core.specs.Lookup.{IsGroupNamed, IsCellNamed, IsNetNamed};
@@ -89,8 +89,7 @@ impl Flat {
         ensures found { IfSome result (λ group. IsGroupNamed self.now name.now group.now) }
         ensures missing { IfNone result ((group : _) → ¬ IsGroupNamed self.now name.now group) }
     {
-        let number = self.group_numbers.number_of(name.as_bytes())?;
-        self.groups.get(number as usize)
+        self.group_named(name.as_bytes())
     }
 
     /// The cell with this flat identifier, or `None` where no cell has it.
@@ -101,4 +100,20 @@ impl Flat {
         let number = self.cell_numbers.number_of(name.as_bytes())?;
         Some(CellId(number))
     }
+
+    // The group with this flat identifier.
+    fn group_named(&self, name: &[u8]) -> Option<&Group>
+        ensures found { IfSome result (λ group. IsGroupNamed self.now name.now group.now) }
+        ensures missing { IfNone result ((group : _) → ¬ IsGroupNamed self.now name.now group) }
+    {
+        let number = self.group_numbers.number_of(name)?;
+        item_at(self.groups.as_slice(), number as usize)
+    }
+}
+
+// The item at a number, as one equation.
+fn item_at<T>(items: &[T], at: usize) -> Option<&T>
+    ensures { option_copied result ≡ slice_get items.now at }
+{
+    items.get(at)
 }

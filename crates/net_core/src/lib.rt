@@ -1,6 +1,7 @@
 //! Flat netlists: what they consist of, what a run of one is, and what a machine over one answers.
 #![tactic(auto)]
 
+mod bit_name;
 mod flat;
 mod kind;
 mod machine;
