@@ -2,3 +2,4 @@ pub mod ListLemmas
 pub mod TableLemmas
 pub mod LookupLemmas
 pub mod BitNameLemmas
+pub mod NetNameLemmas

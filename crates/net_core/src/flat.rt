@@ -1,8 +1,9 @@
-ghost use Rattle.std.specs.Prelude.{◌≡◌, ◌↔◌, IsTrue, IfSome, IfNone, slice_get, option_copied};
-ghost use Rattle.net_core.specs.Netlist.{parts_of, is_clock, is_driven, IsClock, IsDriven};
-ghost use Rattle.net_core.specs.WellFormed.{IsFlat};
+ghost use Rattle.std.specs.Prelude.{◌≡◌, ◌↔◌, IsTrue, IfSome, IfNone, IsSome, Some, slice_get, option_copied};
+ghost use Rattle.net_core.specs.Netlist.{parts_of, is_clock, is_driven, IsClock, IsDriven, IsIn};
+ghost use Rattle.net_core.specs.WellFormed.{IsFlat, indexed_name, range_indices};
 ghost use Rattle.net_core.specs.Lookup.{IsGroupNamed, IsCellNamed, IsNetNamed};
 
+use crate::bit_name::split_bit_name;
 use crate::names::NameTable;
 use crate::parts::{Cell, CellId, Group, NetId, Port};
 use std::marker::Model;
@@ -101,13 +102,66 @@ impl Flat {
         Some(CellId(number))
     }
 
+    /// The net bit with this flat name, as `name` of a scalar or `name[3]` of a vector's bit, or
+    /// `None` where no net bit has it.
+    pub fn find(&self, name: &str) -> Option<NetId>
+        ensures found { IfSome result (λ net. IsNetNamed self.now name.now net.0) }
+        ensures missing { IfNone result ((number : _) → ¬ IsNetNamed self.now name.now number) }
+    {
+        let scalar = self.scalar_named(name.as_bytes());
+        if scalar.is_some() {
+            return scalar;
+        }
+        let (front, index) = split_bit_name(name)?;
+        self.vector_bit(front.as_bytes(), index)
+    }
+
+    // The bit of the scalar with this name.
+    fn scalar_named(&self, name: &[u8]) -> Option<NetId>
+        ensures found { IfSome result (λ net. IsNetNamed self.now name.now net.0) }
+        ensures missing { IfNone result ((group : _) → IsGroupNamed self.now name.now group → IsSome group.range) }
+        ensures kept { IsFlat self.now }
+    {
+        let group = self.group_named(name)?;
+        match group.range {
+            None => group.bits.get(0).copied(),
+            Some(_) => None,
+        }
+    }
+
+    // The bit with this index of the vector with this name.
+    fn vector_bit(&self, front: &[u8], index: u32) -> Option<NetId>
+        ensures found { IfSome result (λ net. IsNetNamed self.now (indexed_name front.now index) net.0) }
+        ensures missing { IfNone result ((group : _) (range : _) → IsGroupNamed self.now front.now group → group.range ≡ Some range → ¬ IsIn (range_indices range.0 range.1) index) }
+    {
+        let group = self.group_named(front)?;
+        let (left, right) = group.range?;
+        let place = place_in_range(left, right, index)?;
+        group.bits.get(place).copied()
+    }
+
     // The group with this flat identifier.
     fn group_named(&self, name: &[u8]) -> Option<&Group>
         ensures found { IfSome result (λ group. IsGroupNamed self.now name.now group.now) }
         ensures missing { IfNone result ((group : _) → ¬ IsGroupNamed self.now name.now group) }
+        ensures kept { IsFlat self.now }
     {
         let number = self.group_numbers.number_of(name)?;
         item_at(self.groups.as_slice(), number as usize)
+    }
+}
+
+// How many bits of a vector stand left of the one with this index.
+fn place_in_range(left: u32, right: u32, index: u32) -> Option<usize>
+    ensures found { IfSome result (λ place. slice_get (range_indices left right) place ≡ Some index) }
+    ensures missing { IfNone result (¬ IsIn (range_indices left right) index) }
+{
+    if right <= index && index <= left {
+        Some((left - index) as usize)
+    } else if left <= index && index <= right {
+        Some((index - left) as usize)
+    } else {
+        None
     }
 }
 
