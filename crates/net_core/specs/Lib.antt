@@ -4,3 +4,4 @@ pub mod WellFormed
 pub mod Run
 pub mod Cycle
 pub mod Lookup
+pub mod Tables

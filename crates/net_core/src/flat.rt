@@ -1,9 +1,10 @@
-ghost use Rattle.std.specs.Prelude.{◌≡◌, ◌↔◌, IsTrue, IfSome, IfNone, IsSome, Some, slice_get, option_copied};
+ghost use Rattle.std.specs.Prelude.{◌≡◌, ◌↔◌, IsTrue, IfSome, IfNone, IsSome, Some, slice_get};
 ghost use Rattle.net_core.specs.Netlist.{parts_of, is_clock, is_driven, IsClock, IsDriven, IsIn};
 ghost use Rattle.net_core.specs.WellFormed.{IsFlat, indexed_name, range_indices};
 ghost use Rattle.net_core.specs.Lookup.{IsGroupNamed, IsCellNamed, IsNetNamed};
 
 use crate::bit_name::split_bit_name;
+use crate::lists::item_at;
 use crate::names::NameTable;
 use crate::parts::{Cell, CellId, Group, NetId, Port};
 use std::marker::Model;
@@ -163,11 +164,4 @@ fn place_in_range(left: u32, right: u32, index: u32) -> Option<usize>
     } else {
         None
     }
-}
-
-// The item at a number, as one equation.
-fn item_at<T>(items: &[T], at: usize) -> Option<&T>
-    ensures { option_copied result ≡ slice_get items.now at }
-{
-    items.get(at)
 }

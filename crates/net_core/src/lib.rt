@@ -4,9 +4,11 @@
 mod bit_name;
 mod flat;
 mod kind;
+mod lists;
 mod machine;
 mod names;
 mod parts;
+mod tables;
 
 pub use flat::Flat;
 pub use kind::{CellKind, GateCode};
