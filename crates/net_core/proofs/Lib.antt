@@ -5,3 +5,5 @@ pub mod BitNameLemmas
 pub mod NetNameLemmas
 pub mod MarkLemmas
 pub mod SourceLemmas
+pub mod ClockLemmas
+pub mod NumberLemmas

@@ -44,7 +44,7 @@ module _ (net : Netlist) (name : List ℕ) where
         named = sym (ap (λ (g : Group). g.name) group_is) ∙ ap (λ (p : List ℕ × ℕ). p.0) own.2 ∙ sym ((bytes_eq-Decides name entry.1).0 entry.3);
       }
 
-  group_there : (number : ℕ) → lookup (bytes_eq name) (named_groups net.groups) ≡ Some number → (group : Group) × (slice_get net.groups number ≡ Some group)
+  pub group_there : (number : ℕ) → lookup (bytes_eq name) (named_groups net.groups) ≡ Some number → (group : Group) × (slice_get net.groups number ≡ Some group)
   group_there number found =
       let entry = lookup_some (bytes_eq name) (named_groups net.groups) number found in
       let own = option_map_some (λ (e : ℕ × Group). (e.1.name, e.0)) (slice_get (enumerate_from 0 net.groups) entry.0) (entry.1, number)

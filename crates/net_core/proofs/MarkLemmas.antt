@@ -1,5 +1,6 @@
 -- Marks that are set in a loop.
-use Rattle.std.proofs.Common.{◌≡◌, ◌≢◌, ℕ, ◌+◌, ◌<◌, ◌≤◌, Bool, true, false, List, [], length, get_or, set, slice_get, Option, Some, None, ◌⊎◌, inl, inr, ◌↔◌, refl, ap, sym, ◌∙◌, subst, arith, true≢false, get_or-set_same, get_or-set_other}
+use Rattle.std.proofs.lemmas.List.{length-replicate}
+use Rattle.std.proofs.Common.{◌≡◌, ◌≢◌, ℕ, zero, suc, replicate, ◌+◌, ◌<◌, ◌≤◌, Bool, true, false, List, [], length, get_or, set, slice_get, Option, Some, None, ◌⊎◌, inl, inr, ◌↔◌, refl, ap, sym, ◌∙◌, subst, arith, true≢false, get_or-set_same, get_or-set_other}
 use Rattle.std.proofs.Math.ListN.{length-set}
 use Rattle.std.proofs.lemmas.Bool.{cases_eq}
 use Rattle.std.proofs.lemmas.Option.{slice_get_within, same_Some, none-some, slice_get-map}
@@ -148,3 +149,21 @@ port_group groups port group old new input at added = record { size = added.size
 pub in_group : (groups : List Group) (port : Port) (group : Group) (n k : ℕ) → port.output ≡ false → slice_get groups port.group ≡ Some group → slice_get group.bits k ≡ Some (record { 0 = n }) → IsInputOf groups port n
 in_group groups port group n k input at own =
     (input, (k, ap (λ (o : Option Group). slice_get (option_map_or group_nets o []) k) at ∙ slice_get-map (λ (b : NetId). b.0) group.bits k ∙ ap (option_map (λ (b : NetId). b.0)) own))
+
+blank : (count n : ℕ) → get_or (replicate count false) n false ≡ false
+blank zero n = refl
+blank (suc count) zero = refl
+blank (suc count) (suc n) = blank count n
+
+-- two kinds of marks on a blank table
+pub marks_both : (count : ℕ) (start first both : List Bool) (P Q : ℕ → Type 0) → start ≡ replicate count false → AddsMarks start first P → AddsMarks first both Q
+    → (length both ≡ count) × ((n : ℕ) → (get_or both n false ≡ true) ↔ (P n ⊎ Q n))
+marks_both count start first both P Q is p q = (q.size ∙ p.size ∙ ap length is ∙ length-replicate count false, λ n. (to n, from n))
+  where
+    to : (n : ℕ) → get_or both n false ≡ true → P n ⊎ Q n
+    to n t = elim ((q.marked n).0 t)
+      [ inl s ↦ elim ((p.marked n).0 s) [ inl o ↦ absurd (true≢false (sym o ∙ ap (λ xs. get_or xs n false) is ∙ blank count n)) | inr own ↦ inl own ]
+      | inr own ↦ inr own ]
+    from : (n : ℕ) → P n ⊎ Q n → get_or both n false ≡ true
+    from n (inl own) = (q.marked n).1 (inl ((p.marked n).1 (inr own)))
+    from n (inr own) = (q.marked n).1 (inr own)

@@ -6,7 +6,7 @@ use Rattle.net_core.specs.declared.parts.Cell.{Cell}
 use Rattle.net_core.specs.declared.parts.Group.{Group}
 use Rattle.net_core.specs.declared.parts.Port.{Port}
 use Rattle.net_core.specs.CellTable.{is_clock_buffer}
-use Rattle.net_core.specs.Netlist.{Drives, Reads, IsIn, port_nets}
+use Rattle.net_core.specs.Netlist.{Drives, Reads, HasDriver, IsIn, IsBuffered, port_nets}
 
 -- some output pin of these is on net n
 abbrev pub IsOn : List (Option NetId) → ℕ → Type 0
@@ -59,3 +59,14 @@ pub record AreBack (sources : List ℕ) (steps : ℕ) (back : List ℕ) : Type 0
   pub size : length back ≡ length sources
   pub each : (n : ℕ) → n < length sources → slice_index back n ≡ iterated (slice_index sources) steps n
   pub within : All (λ source. source < length back) back
+
+-- the table tells what clock buffers make of the net without a driver from which the clock comes
+pub record IsClockTable (cells : List Cell) (count clock : ℕ) (table : List Bool) : Type 0 where
+  pub size : length table ≡ count
+  pub marked : (root : ℕ) → root < count → ¬ HasDriver cells root → IsBuffered cells root clock
+      → (n : ℕ) → (slice_index_or table n false ≡ true) ↔ IsBuffered cells root n
+
+-- the table tells which nets are bits of an input port or on an output pin
+pub record IsDrivenTable (groups : List Group) (cells : List Cell) (ports : List Port) (count : ℕ) (table : List Bool) : Type 0 where
+  pub size : length table ≡ count
+  pub marked : (n : ℕ) → (slice_index_or table n false ≡ true) ↔ (((p : ℕ) × (port : Port) × (slice_get ports p ≡ Some port) × IsInputOf groups port n) ⊎ HasDriver cells n)

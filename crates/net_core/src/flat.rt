@@ -1,12 +1,16 @@
-ghost use Rattle.std.specs.Prelude.{◌≡◌, ◌↔◌, IsTrue, IfSome, IfNone, IsSome, Some, slice_get};
+ghost use Rattle.std.specs.Prelude.{◌≡◌, ◌↔◌, IsTrue, IfOk, IfSome, IfNone, IsSome, Some, slice_get};
 ghost use Rattle.net_core.specs.Netlist.{parts_of, is_clock, is_driven, IsClock, IsDriven, IsIn};
-ghost use Rattle.net_core.specs.WellFormed.{IsFlat, indexed_name, range_indices};
+ghost use Rattle.net_core.specs.WellFormed.{IsFlat, IsWellFormed, indexed_name, range_indices};
 ghost use Rattle.net_core.specs.Lookup.{IsGroupNamed, IsCellNamed, IsNetNamed};
 
 use crate::bit_name::split_bit_name;
 use crate::lists::item_at;
 use crate::names::NameTable;
+use crate::numbers::{number_cells, number_groups};
 use crate::parts::{Cell, CellId, Group, NetId, Port};
+use crate::tables::{clock_table, count_nets, driven_table};
+use ila_base::NoMemory;
+use std::alloc::Global;
 use std::marker::Model;
 
 /// A flat netlist: one module without instances of modules (IEEE 1364-2005, 12), as its nets, cells
@@ -36,6 +40,41 @@ impl Model for Flat {
 }
 
 impl Flat {
+    /// The netlist of these parts, which have to be well formed. It takes time linear in the cells,
+    /// pins, net bits and bytes of names.
+    pub fn from_parts(
+        alloc: Global,
+        groups: Vec<Group>,
+        cells: Vec<Cell>,
+        ports: Vec<Port>,
+        clock: NetId,
+    ) -> Result<Flat, NoMemory>
+        requires { IsWellFormed (record { groups = groups.items; cells = cells.items; ports = ports.items; clock = clock }) }
+        ensures { IfOk result (λ flat. parts_of flat ≡ record { groups = groups.items; cells = cells.items; ports = ports.items; clock = clock }) }
+    {
+        let count = count_nets(groups.as_slice());
+        let group_numbers = number_groups(alloc, groups.as_slice())?;
+        let cell_numbers = number_cells(alloc, cells.as_slice())?;
+        let clocked = clock_table(alloc, count as u32, cells.as_slice(), clock)?;
+        let driven = driven_table(
+            alloc,
+            count,
+            groups.as_slice(),
+            cells.as_slice(),
+            ports.as_slice(),
+        )?;
+        Ok(Flat {
+            groups,
+            cells,
+            ports,
+            clock,
+            clocked,
+            driven,
+            group_numbers,
+            cell_numbers,
+        })
+    }
+
     /// The groups of nets. Net numbers rise through them from 0, and the ports' groups come first,
     /// in port order.
     pub fn groups(&self) -> &[Group]

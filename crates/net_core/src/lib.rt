@@ -7,6 +7,7 @@ mod kind;
 mod lists;
 mod machine;
 mod names;
+mod numbers;
 mod parts;
 mod tables;
 

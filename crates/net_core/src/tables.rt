@@ -1,9 +1,9 @@
 //! The tables of a netlist: which net bits are driven, and which carry the clock.
-ghost use Rattle.std.specs.Prelude.{◌≡◌, ℕ, ◌<◌, ◌^◌, ◌≤◌, ◌↔◌, true, false, List, IfOk, IfSome, IfNone, length, map, slice_get, slice_index, slice_index_or, Some, All};
+ghost use Rattle.std.specs.Prelude.{◌≡◌, ℕ, ◌<◌, ◌^◌, ◌≤◌, ◌↔◌, ◌==◌, true, false, List, IfOk, IfSome, IfNone, length, map, slice_get, slice_index, slice_index_or, Some, All};
 ghost use Rattle.std.specs.List.{range_with_len};
 ghost use Rattle.net_core.specs.CellTable as kinds;
-ghost use Rattle.net_core.specs.Netlist.{net_count, HasDriver, Drives, IsIn, IsBuffered, input_bits, IsDriven, Parts};
-ghost use Rattle.net_core.specs.Tables.{IsOn, IsAmongNets, IsInputOf, IsBufferInput, IsBufferFrom, AddsMarks, Writes, AreSources, AreBack};
+ghost use Rattle.net_core.specs.Netlist.{net_count, HasDriver, Drives, Reads, IsIn, IsBuffered, input_bits, IsDriven, Parts};
+ghost use Rattle.net_core.specs.Tables.{IsOn, IsAmongNets, IsInputOf, IsBufferInput, IsBufferFrom, AddsMarks, Writes, AreSources, AreBack, IsClockTable, IsDrivenTable};
 ghost use Rattle.net_core.specs.declared.parts.Cell.{Cell as CellOf};
 
 use crate::kind::{CellKind, GateCode};
@@ -162,4 +162,53 @@ fn origins(alloc: Global, sources: Vec<u32>) -> Result<Vec<u32>, NoMemory>
         back = sources_of_sources(alloc, back.as_slice())?;
     }
     Ok(back)
+}
+
+// Which numbers are the one at a place.
+fn same_as(alloc: Global, numbers: &[u32], place: usize) -> Result<Vec<bool>, NoMemory>
+    requires { place < length numbers.now }
+    ensures { IfOk result (λ table. table.items ≡ map (λ other. other == slice_index numbers.now place) numbers.now) }
+{
+    let number = numbers[place];
+    Ok(numbers.iter().map(|other| *other == number).collect(alloc)?)
+}
+
+/// Which net bits carry the clock: those that clock buffers make of the net without a driver from
+/// which they make `clock`. It takes time linear in the cells and pins and twenty passes over the
+/// nets.
+pub fn clock_table(
+    alloc: Global,
+    count: u32,
+    cells: &[Cell],
+    clock: NetId,
+) -> Result<Vec<bool>, NoMemory>
+    requires few { count ≤ 2 ^ 20 }
+    requires driven { (n : ℕ) → HasDriver cells.now n → n < count }
+    requires read { (c i m : ℕ) (cell : _) → Reads cells.now c cell i m → m < count }
+    requires one_driver { (c d k l n : ℕ) (a b : _) → Drives cells.now c a k n → Drives cells.now d b l n → c ≡ d }
+    requires clock { clock.0 < count }
+    ensures { IfOk result (λ table. IsClockTable cells.now count clock.0 table.items) }
+{
+    let sources = net_sources(alloc, count, cells)?;
+    let back = origins(alloc, sources)?;
+    same_as(alloc, back.as_slice(), clock.0 as usize)
+}
+
+/// Which net bits are driven: the bits of input ports and those on output pins. It takes time linear
+/// in the nets, cells and pins.
+pub fn driven_table(
+    alloc: Global,
+    count: usize,
+    groups: &[Group],
+    cells: &[Cell],
+    ports: &[Port],
+) -> Result<Vec<bool>, NoMemory>
+    requires inputs { (n p : ℕ) (port : _) → slice_get ports.now p ≡ Some port → IsInputOf groups.now port n → n < count }
+    requires driven { (n : ℕ) → HasDriver cells.now n → n < count }
+    ensures { IfOk result (λ table. IsDrivenTable groups.now cells.now ports.now count table.items) }
+{
+    let mut driven = vec![in alloc; false; count]?;
+    mark_inputs(&mut driven, groups, ports);
+    mark_outputs(&mut driven, cells);
+    Ok(driven)
 }
