@@ -1,7 +1,7 @@
 -- A name of the form `front[index]` is split in one way.
-use Rattle.std.proofs.Common.{◌≡◌, ◌≢◌, ℕ, suc, zero, ◌+◌, ◌<◌, ◌≤◌, ◌^◌, List, [], ◌∷◌, ◌++◌, length, get_or, take, drop, refl, ap, sym, ◌∙◌, arith, append_assoc, length-append, subst, Result, Ok, Err, decimal, codes, Option, Some, None, eqb}
+use Rattle.std.proofs.Common.{◌≡◌, ◌≢◌, ℕ, ◌<◌, ◌^◌, List, [], ◌∷◌, ◌++◌, length, get_or, take, drop, refl, ap, sym, ◌∙◌, arith, append_assoc, length-append, subst, Result, decimal, codes, Option, Some, eqb}
 use Rattle.std.specs.Str.{NoCharPasses}
-use Rattle.std.specs.Str.Pattern.{HasCharAt, RFindsChar, SplitsAroundMatch}
+use Rattle.std.specs.Str.Pattern.{RFindsChar, SplitsAroundMatch}
 use Rattle.std.specs.Str.Parse.{ParsesUnsigned}
 use Rattle.std.specs.Result.{result_ok}
 use Rattle.std.proofs.lemmas.List.{take-append-drop, append_cancel_right}
@@ -53,9 +53,10 @@ no_bracket name opened front index closed none is =
 -- what `rsplit_once` gives
 pub split_at_last : (bs front back : List ℕ) → SplitsAroundMatch (RFindsChar 91) bs front back → (bs ≡ front ++ 91 ∷ back) × Lacks 91 back
 split_at_last bs front back split =
-    let at : drop split.0 bs ≡ 91 ∷ drop split.1 bs = drop_at_char 91 bs split.0 split.1 split.2.1 (omega arith) in
-    (sym (take-append-drop split.0 bs) ∙ ap (λ xs. take split.0 bs ++ xs) (at ∙ ap (λ xs. 91 ∷ xs) (sym split.4)) ∙ ap (λ xs. xs ++ 91 ∷ back) (sym split.3),
-     λ k within is. NoCharPasses-char 91 (drop split.1 bs) k split.2.0 (omega arith) (subst (λ xs. k < length xs) split.4 within) (ap (λ xs. get_or xs k 0) (sym split.4) ∙ is))
+    let at : drop split.0 bs ≡ 91 ∷ drop split.1 bs = drop_at_char 91 bs split.0 split.1 split.2.1 (omega arith) in (
+      sym (take-append-drop split.0 bs) ∙ ap (λ xs. take split.0 bs ++ xs) (at ∙ ap (λ xs. 91 ∷ xs) (sym split.4)) ∙ ap (λ xs. xs ++ 91 ∷ back) (sym split.3),
+      λ k within is. NoCharPasses-char 91 (drop split.1 bs) k split.2.0 (omega arith) (subst (λ xs. k < length xs) split.4 within) (ap (λ xs. get_or xs k 0) (sym split.4) ∙ is),
+    )
 
 -- the parts of a name of the form are the ones found
 pub same_parts : (name opened front back other : List ℕ) (index : ℕ) → name ≡ opened ++ 93 ∷ [] → opened ≡ front ++ 91 ∷ back → Lacks 91 back

@@ -1,5 +1,5 @@
 -- The clock set by the sources of nets: a net carries the clock where enough steps back lead to the clock port's bit.
-use Rattle.std.proofs.Common.{◌≡◌, ◌≢◌, ℕ, zero, suc, ◌+◌, ◌-◌, ◌<◌, ◌≤◌, Bool, true, false, List, length, get_or, map, slice_get, slice_index, Some, ◌⊎◌, inl, inr, ◌↔◌, refl, ap, sym, ◌∙◌, subst, arith, nat_eq, ◌==◌, if◌then◌else◌, true≢false, Result, Ok, Err, IfOk}
+use Rattle.std.proofs.Common.{◌≡◌, ◌≢◌, ℕ, zero, suc, ◌+◌, ◌-◌, ◌<◌, ◌≤◌, Bool, true, false, List, length, get_or, map, slice_get, slice_index, inl, inr, refl, ap, sym, ◌∙◌, subst, arith, ◌==◌, if◌then◌else◌, true≢false, Result, Ok, Err, IfOk}
 use Rattle.std.proofs.lemmas.Bool.{cases_eq, cases_lt, false_from_ne_true}
 use Rattle.std.proofs.lemmas.Bool.Decides.{Decides-eqb}
 use Rattle.std.proofs.lemmas.List.{length-map, get_or-map, get_or_past}
@@ -31,19 +31,25 @@ pigeonhole (suc n) zero f into one = absurd (omega (arith, into n (omega arith))
 pigeonhole (suc n) (suc m) f into one = omega (arith, pigeonhole n m (avoiding f m n) less apart)
   where
     less : (k : ℕ) → k < n → avoiding f m n k < m
-    less k low = elim (cases_eq (f k) m)
-      [ inl hit ↦ (elim (cases_eq (f n) m)
-        [ inl last ↦ absurd (let same : n ≡ k = one n k (omega arith) (omega arith) (last ∙ sym hit) in omega arith)
-        | inr other ↦ omega (arith, avoid_hit f m n k hit, into n (omega arith), other) ])
-      | inr miss ↦ omega (arith, avoid_miss f m n k miss, into k (omega arith), miss) ]
+    less k low = elim (cases_eq (f k) m) [
+      | inl hit ↦ (elim (cases_eq (f n) m) [
+        | inl last ↦ absurd (let same : n ≡ k = one n k (omega arith) (omega arith) (last ∙ sym hit) in omega arith)
+        | inr other ↦ omega (arith, avoid_hit f m n k hit, into n (omega arith), other)
+      ])
+      | inr miss ↦ omega (arith, avoid_miss f m n k miss, into k (omega arith), miss)
+    ]
+
     apart : (j k : ℕ) → j < n → k < n → avoiding f m n j ≡ avoiding f m n k → j ≡ k
-    apart j k low high is = elim (cases_eq (f j) m)
-      [ inl hit ↦ (elim (cases_eq (f k) m)
-        [ inl hit' ↦ one j k (omega arith) (omega arith) (hit ∙ sym hit')
-        | inr miss ↦ absurd (let same : n ≡ k = one n k (omega arith) (omega arith) (sym (avoid_hit f m n j hit) ∙ is ∙ avoid_miss f m n k miss) in omega arith) ])
-      | inr miss ↦ (elim (cases_eq (f k) m)
-        [ inl hit ↦ absurd (let same : j ≡ n = one j n (omega arith) (omega arith) (sym (avoid_miss f m n j miss) ∙ is ∙ avoid_hit f m n k hit) in omega arith)
-        | inr miss' ↦ one j k (omega arith) (omega arith) (sym (avoid_miss f m n j miss) ∙ is ∙ avoid_miss f m n k miss') ]) ]
+    apart j k low high is = elim (cases_eq (f j) m) [
+      | inl hit ↦ (elim (cases_eq (f k) m) [
+        | inl hit' ↦ one j k (omega arith) (omega arith) (hit ∙ sym hit')
+        | inr miss ↦ absurd (let same : n ≡ k = one n k (omega arith) (omega arith) (sym (avoid_hit f m n j hit) ∙ is ∙ avoid_miss f m n k miss) in omega arith)
+      ])
+      | inr miss ↦ (elim (cases_eq (f k) m) [
+        | inl hit ↦ absurd (let same : j ≡ n = one j n (omega arith) (omega arith) (sym (avoid_miss f m n j miss) ∙ is ∙ avoid_hit f m n k hit) in omega arith)
+        | inr miss' ↦ one j k (omega arith) (omega arith) (sym (avoid_miss f m n j miss) ∙ is ∙ avoid_miss f m n k miss')
+      ])
+    ]
 
 same_net : (m m' : ℕ) → ◌≡◌ {A = Pin} (pins.Net (record { 0 = m })) (pins.Net (record { 0 = m' })) → m ≡ m'
 same_net m m' is = let net : ◌≡◌ {A = NetId} (record { 0 = m }) (record { 0 = m' }) = cc is in ap (λ (net : NetId). net.0) net
@@ -54,9 +60,10 @@ module _ (cells : List Cell) (count : ℕ) (sources : List ℕ) (are : AreSource
     (read : (c i m : ℕ) (cell : Cell) → Reads cells c cell i m → m < count) where
   -- the source of what a buffer makes is what it reads
   source_is : (m n : ℕ) → IsBufferFrom cells m n → slice_index sources n ≡ m
-  source_is m n from = elim (are.each n (driven n (from.c, from.cell, from.k, from.drives)))
-    [ inl own ↦ own.2 ∙ sym (same own.0 own.1)
-    | inr none ↦ absurd (none.0 m from) ]
+  source_is m n from = elim (are.each n (driven n (from.c, from.cell, from.k, from.drives))) [
+    | inl own ↦ own.2 ∙ sym (same own.0 own.1)
+    | inr none ↦ absurd (none.0 m from)
+  ]
     where
       same : (m' : ℕ) → IsBufferFrom cells m' n → m ≡ m'
       same m' other =
@@ -86,14 +93,15 @@ module _ (cells : List Cell) (count : ℕ) (sources : List ℕ) (are : AreSource
     deep_more : (m n d : ℕ) → IsBufferFrom cells m n → IsDeep d m → IsDeep (suc d) n
     unfolding iterated
     deep_more m n d from rest = record {
-        arrives = ap (iterated (slice_index sources) d) (source_is m n from) ∙ rest.arrives;
-        before = before;
-        inside = inside;
-      }
+      arrives = ap (iterated (slice_index sources) d) (source_is m n from) ∙ rest.arrives;
+      before = before;
+      inside = inside;
+    }
       where
         before : (j : ℕ) → j < suc d → iterated (slice_index sources) j n ≢ root
         before zero below is = undriven (subst (HasDriver cells) is (from.c, from.cell, from.k, from.drives))
         before (suc j) below is = rest.before j (omega arith) (sym (ap (iterated (slice_index sources) j) (source_is m n from)) ∙ is)
+
         inside : (j : ℕ) → j ≤ suc d → iterated (slice_index sources) j n < count
         inside zero below = driven n (from.c, from.cell, from.k, from.drives)
         inside (suc j) below = subst (λ k. k < count) (sym (ap (iterated (slice_index sources) j) (source_is m n from))) (rest.inside j (omega arith))
@@ -108,15 +116,16 @@ module _ (cells : List Cell) (count : ℕ) (sources : List ℕ) (are : AreSource
     apart n d j k is below high same =
         let sum : k + (d - k) ≡ d = omega arith in
         is.before (j + (d - k)) (omega arith)
-            (iterated-add (slice_index sources) j (d - k) n ∙ ap (iterated (slice_index sources) (d - k)) same
-             ∙ sym (iterated-add (slice_index sources) k (d - k) n) ∙ ap (λ i. iterated (slice_index sources) i n) sum ∙ is.arrives)
+        (iterated-add (slice_index sources) j (d - k) n ∙ ap (iterated (slice_index sources) (d - k)) same
+        ∙ sym (iterated-add (slice_index sources) k (d - k) n) ∙ ap (λ i. iterated (slice_index sources) i n) sum ∙ is.arrives)
 
     -- there are no more steps than nets
     shallow : (n d : ℕ) → IsDeep d n → d < count
     shallow n d is = pigeonhole (suc d) count (λ j. iterated (slice_index sources) j n) (λ j below. is.inside j (omega arith))
-        (λ j k below high same. elim (cases_lt j k)
-          [ inl less ↦ absurd (apart n d j k is less (omega arith) same)
-          | inr more ↦ (elim (cases_eq j k) [ inl e ↦ e | inr other ↦ absurd (apart n d k j is (omega arith) (omega arith) (sym same)) ]) ])
+        (λ j k below high same. elim (cases_lt j k) [
+          | inl less ↦ absurd (apart n d j k is less (omega arith) same)
+          | inr more ↦ (elim (cases_eq j k) [ inl e ↦ e | inr other ↦ absurd (apart n d k j is (omega arith) (omega arith) (sym same)) ])
+        ])
 
     settled : (n steps : ℕ) → count ≤ steps → IsBuffered cells root n → iterated (slice_index sources) steps n ≡ root
     settled n steps enough is =
@@ -129,10 +138,11 @@ module _ (cells : List Cell) (count : ℕ) (sources : List ℕ) (are : AreSource
     sound : (k n : ℕ) → n < count → iterated (slice_index sources) k n ≡ root → IsBuffered cells root n
     unfolding iterated
     sound zero n inside is = subst (IsBuffered cells root) (sym is) itself
-    sound (suc k) n inside is = elim (are.each n inside)
-      [ inl own ↦ through own.1.c own.1.cell own.1.k own.1.buffer own.1.reads own.1.drives
+    sound (suc k) n inside is = elim (are.each n inside) [
+      | inl own ↦ through own.1.c own.1.cell own.1.k own.1.buffer own.1.reads own.1.drives
           (sound k own.0 (read own.1.c 0 own.0 own.1.cell own.1.reads) (sym (ap (iterated (slice_index sources) k) own.2) ∙ is))
-      | inr none ↦ sound k n inside (sym (ap (iterated (slice_index sources) k) none.1) ∙ is) ]
+      | inr none ↦ sound k n inside (sym (ap (iterated (slice_index sources) k) none.1) ∙ is)
+    ]
 
     buffered_inside : (n : ℕ) → IsBuffered cells root n → n < count
     buffered_inside _ itself = low
@@ -145,15 +155,20 @@ module _ (cells : List Cell) (count : ℕ) (sources : List ℕ) (are : AreSource
     where
       size : length table ≡ count
       size = ap length is ∙ length-map back (λ other. other == get_or back clock 0) ∙ are_back.size ∙ are.size
+
       at : (n : ℕ) → n < count → get_or table n false ≡ (get_or back n 0 == get_or back clock 0)
       at n low = ap (λ xs. get_or xs n false) is ∙ get_or-map (λ other. other == get_or back clock 0) back n 0 false (omega (arith, are_back.size, are.size))
+
       origin : (root : ℕ) → root < count → ¬ HasDriver cells root → IsBuffered cells root clock → get_or back clock 0 ≡ root
       origin root low undriven leads = are_back.each clock (omega (arith, are.size)) ∙ settled root low undriven clock steps enough leads
+
       to : (root : ℕ) → root < count → ¬ HasDriver cells root → IsBuffered cells root clock → (n : ℕ) → get_or table n false ≡ true → IsBuffered cells root n
-      to root low undriven leads n t = elim (cases_lt n count)
-        [ inl within ↦ (let same : get_or back n 0 ≡ get_or back clock 0 = (Decides-eqb (get_or back n 0) (get_or back clock 0)).0 (sym (at n within) ∙ t) in
+      to root low undriven leads n t = elim (cases_lt n count) [
+        | inl within ↦ (let same : get_or back n 0 ≡ get_or back clock 0 = (Decides-eqb (get_or back n 0) (get_or back clock 0)).0 (sym (at n within) ∙ t) in
             sound root low undriven steps n within (sym (are_back.each n (omega (arith, are.size))) ∙ same ∙ origin root low undriven leads))
-        | inr past ↦ absurd (true≢false (sym t ∙ get_or_past table n false (omega (arith, size)))) ]
+        | inr past ↦ absurd (true≢false (sym t ∙ get_or_past table n false (omega (arith, size))))
+      ]
+
       from : (root : ℕ) → root < count → ¬ HasDriver cells root → IsBuffered cells root clock → (n : ℕ) → IsBuffered cells root n → get_or table n false ≡ true
       from root low undriven leads n own =
           let within : n < count = buffered_inside root low undriven n own in

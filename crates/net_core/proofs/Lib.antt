@@ -7,3 +7,4 @@ pub mod MarkLemmas
 pub mod SourceLemmas
 pub mod ClockLemmas
 pub mod NumberLemmas
+pub mod PartsLemmas

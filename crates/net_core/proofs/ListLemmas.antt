@@ -1,5 +1,5 @@
 -- The elements of lists that are enumerated, filtered or joined.
-use Rattle.std.proofs.Common.{◌≡◌, ℕ, zero, suc, ◌+◌, Bool, true, false, cond, List, [], ◌∷◌, ◌++◌, map, slice_get, Option, Some, None, refl, ap, sym, ◌∙◌, arith, length, ◌⊎◌, inl, inr}
+use Rattle.std.proofs.Common.{◌≡◌, ℕ, zero, suc, ◌+◌, Bool, true, false, cond, List, [], ◌∷◌, ◌++◌, slice_get, Option, Some, None, refl, ap, sym, ◌∙◌, arith, length, ◌⊎◌, inl, inr}
 use Rattle.std.specs.List.{enumerate_from, filter_map, cons_option, flat_map}
 use Rattle.std.specs.Option.{option_map}
 use Rattle.std.specs.Map.{lookup}
@@ -76,9 +76,10 @@ module _ {X Y : Type 0} (f : X → List Y) where
       → (j : ℕ) × (x : X) × (i : ℕ) × (slice_get xs j ≡ Some x) × (slice_get (f x) i ≡ Some y)
   flat_map_some [] n y at = absurd (cc at)
   flat_map_some (x ∷ xs) n y at =
-      elim (slice_get_append (f x) (flat_map f xs) n y at)
-      [ inl here ↦ (0, x, n, refl, here)
-      | inr later ↦ (let rest = flat_map_some xs later.0 y later.2 in (suc rest.0, rest.1, rest.2, rest.3, rest.4)) ]
+      elim (slice_get_append (f x) (flat_map f xs) n y at) [
+        | inl here ↦ (0, x, n, refl, here)
+        | inr later ↦ (let rest = flat_map_some xs later.0 y later.2 in (suc rest.0, rest.1, rest.2, rest.3, rest.4))
+      ]
 
   pub flat_map_at : (xs : List X) (j : ℕ) (x : X) (i : ℕ) (y : Y) → slice_get xs j ≡ Some x → slice_get (f x) i ≡ Some y
       → (n : ℕ) × (slice_get (flat_map f xs) n ≡ Some y)

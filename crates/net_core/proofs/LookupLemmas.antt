@@ -1,12 +1,11 @@
 -- What the look-ups of a flat netlist find.
-use Rattle.std.proofs.Common.{◌≡◌, ℕ, Bool, true, false, List, map, slice_get, Option, Some, None, IfSome, IfNone, refl, ap, sym, ◌∙◌, true≢false, ◌+◌, arith}
+use Rattle.std.proofs.Common.{◌≡◌, ℕ, List, slice_get, Option, Some, None, IfSome, IfNone, refl, ap, sym, ◌∙◌, true≢false, ◌+◌, arith}
 use Rattle.std.proofs.lemmas.Option.{same_Some, none-some}
 use Rattle.std.specs.Borrow.{Bor}
-use Rattle.std.specs.List.{enumerate_from, filter_map}
+use Rattle.std.specs.List.{enumerate_from}
 use Rattle.std.specs.Option.{option_map, option_copied}
 use Rattle.std.specs.Map.{lookup}
 use Rattle.std.specs.Str.{bytes_eq}
-use Rattle.std.specs.Bool.{Decides}
 use Rattle.std.proofs.lemmas.Slice.Eq.{bytes_eq-Decides}
 use Rattle.std.proofs.lemmas.Option.{slice_get-map}
 use Rattle.net_core.specs.declared.parts.Cell.{Cell}
@@ -34,7 +33,7 @@ module _ (net : Netlist) (name : List ℕ) where
   group_found number found group at =
       let entry = lookup_some (bytes_eq name) (named_groups net.groups) number found in
       let own = option_map_some (λ (e : ℕ × Group). (e.1.name, e.0)) (slice_get (enumerate_from 0 net.groups) entry.0) (entry.1, number)
-          (sym (slice_get-map (λ (e : ℕ × Group). (e.1.name, e.0)) (enumerate_from 0 net.groups) entry.0) ∙ entry.2) in
+      (sym (slice_get-map (λ (e : ℕ × Group). (e.1.name, e.0)) (enumerate_from 0 net.groups) entry.0) ∙ entry.2) in
       let there = enumerated net.groups entry.0 own.0.0 own.0.1 own.1 in
       let place : own.0.0 ≡ number = ap (λ (p : List ℕ × ℕ). p.1) own.2 in
       let group_is : own.0.1 ≡ group = same_Some _ _ (sym there ∙ ap (slice_get net.groups) place ∙ at) in
@@ -48,7 +47,7 @@ module _ (net : Netlist) (name : List ℕ) where
   group_there number found =
       let entry = lookup_some (bytes_eq name) (named_groups net.groups) number found in
       let own = option_map_some (λ (e : ℕ × Group). (e.1.name, e.0)) (slice_get (enumerate_from 0 net.groups) entry.0) (entry.1, number)
-          (sym (slice_get-map (λ (e : ℕ × Group). (e.1.name, e.0)) (enumerate_from 0 net.groups) entry.0) ∙ entry.2) in
+      (sym (slice_get-map (λ (e : ℕ × Group). (e.1.name, e.0)) (enumerate_from 0 net.groups) entry.0) ∙ entry.2) in
       let place : own.0.0 ≡ number = ap (λ (p : List ℕ × ℕ). p.1) own.2 in
       (own.0.1, ap (slice_get net.groups) (sym place) ∙ enumerated net.groups entry.0 own.0.0 own.0.1 own.1)
 
@@ -63,8 +62,8 @@ module _ (net : Netlist) (name : List ℕ) where
   pub group_missing : lookup (bytes_eq name) (named_groups net.groups) ≡ None → (group : Group) → ¬ IsGroupNamed net name group
   group_missing missing group is =
       let entry : slice_get (named_groups net.groups) is.number ≡ Some (group.name, is.number) =
-          slice_get-map (λ (e : ℕ × Group). (e.1.name, e.0)) (enumerate_from 0 net.groups) is.number
-          ∙ ap (option_map (λ (e : ℕ × Group). (e.1.name, e.0))) (at_enumerated net.groups is.number group is.at) in
+      slice_get-map (λ (e : ℕ × Group). (e.1.name, e.0)) (enumerate_from 0 net.groups) is.number
+      ∙ ap (option_map (λ (e : ℕ × Group). (e.1.name, e.0))) (at_enumerated net.groups is.number group is.at) in
       true≢false (sym ((bytes_eq-Decides name group.name).1 (sym is.named)) ∙ lookup_none (bytes_eq name) (named_groups net.groups) is.number group.name is.number missing entry)
 
   pub cell_found : (number : ℕ) → lookup (bytes_eq name) (named_cells net.cells) ≡ Some number → IsCellNamed net name number
@@ -83,5 +82,5 @@ module _ (net : Netlist) (name : List ℕ) where
   pub cell_missing : lookup (bytes_eq name) (named_cells net.cells) ≡ None → (number : ℕ) → ¬ IsCellNamed net name number
   cell_missing missing number is =
       let entry = filter_map_at (λ (e : ℕ × Cell). option_map (λ (own : List ℕ). (own, e.0)) e.1.name) (enumerate_from 0 net.cells) number (number, is.cell) (name, number)
-          (at_enumerated net.cells number is.cell is.at) (ap (option_map (λ (own : List ℕ). (own, number))) is.named) in
+      (at_enumerated net.cells number is.cell is.at) (ap (option_map (λ (own : List ℕ). (own, number))) is.named) in
       true≢false (sym ((bytes_eq-Decides name name).1 refl) ∙ lookup_none (bytes_eq name) (named_cells net.cells) entry.0 name number missing entry.1)

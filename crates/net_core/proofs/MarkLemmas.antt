@@ -36,27 +36,30 @@ marks_set old m within = record { size = length-set old m true; marked = λ n. b
 pub marks_more : (R : ℕ → ℕ → Type 0) (Q : ℕ → Type 0) (i : ℕ) (old now next : List Bool) → AddsMarks old now (Below R i) → AddsMarks now next Q
     → ((n : ℕ) → Q n → R i n) → ((n : ℕ) → R i n → Q n) → AddsMarks old next (Below R (i + 1))
 marks_more R Q i old now next first then_ gives takes = record {
-    size = then_.size ∙ first.size;
-    marked = λ n. (to n, from n);
-  }
+  size = then_.size ∙ first.size;
+  marked = λ n. (to n, from n);
+}
   where
     to : (n : ℕ) → get_or next n false ≡ true → (get_or old n false ≡ true) ⊎ Below R (i + 1) n
-    to n t = elim ((then_.marked n).0 t)
-      [ inl s ↦ elim ((first.marked n).0 s) [ inl o ↦ inl o | inr (k, low, r) ↦ inr (k, omega (arith, low), r) ]
-      | inr q ↦ inr (i, omega arith, gives n q) ]
+    to n t = elim ((then_.marked n).0 t) [
+      | inl s ↦ elim ((first.marked n).0 s) [ inl o ↦ inl o | inr (k, low, r) ↦ inr (k, omega (arith, low), r) ]
+      | inr q ↦ inr (i, omega arith, gives n q)
+    ]
+
     from : (n : ℕ) → (get_or old n false ≡ true) ⊎ Below R (i + 1) n → get_or next n false ≡ true
     from n (inl o) = (then_.marked n).1 (inl ((first.marked n).1 (inl o)))
-    from n (inr (k, low, r)) = elim (cases_eq k i)
-      [ inl same ↦ (then_.marked n).1 (inr (takes n (subst (λ j. R j n) same r)))
-      | inr other ↦ (then_.marked n).1 (inl ((first.marked n).1 (inr (k, omega (arith, low, other), r)))) ]
+    from n (inr (k, low, r)) = elim (cases_eq k i) [
+      | inl same ↦ (then_.marked n).1 (inr (takes n (subst (λ j. R j n) same r)))
+      | inr other ↦ (then_.marked n).1 (inl ((first.marked n).1 (inr (k, omega (arith, low, other), r))))
+    ]
 
 -- after the last iteration, where P is R at some index
 pub marks_all : (R : ℕ → ℕ → Type 0) (P : ℕ → Type 0) (i : ℕ) (old new : List Bool) → AddsMarks old new (Below R i)
     → ((n : ℕ) → P n → Below R i n) → ((n : ℕ) → Below R i n → P n) → AddsMarks old new P
 marks_all R P i old new all gives takes = record {
-    size = all.size;
-    marked = λ n. (λ t. elim ((all.marked n).0 t) [ inl o ↦ inl o | inr r ↦ inr (takes n r) ], λ t. elim t [ inl o ↦ (all.marked n).1 (inl o) | inr p ↦ (all.marked n).1 (inr (gives n p)) ]);
-  }
+  size = all.size;
+  marked = λ n. (λ t. elim ((all.marked n).0 t) [ inl o ↦ inl o | inr r ↦ inr (takes n r) ], λ t. elim t [ inl o ↦ (all.marked n).1 (inl o) | inr p ↦ (all.marked n).1 (inr (gives n p)) ]);
+}
 
 -- The nets of a list
 
@@ -141,6 +144,7 @@ port_group groups port group old new input at added = record { size = added.size
   where
     to : (n k : ℕ) → slice_get group.bits k ≡ Some (record { 0 = n }) → slice_get (port_nets groups port) k ≡ Some n
     to n k own = ap (λ (o : Option Group). slice_get (option_map_or group_nets o []) k) at ∙ slice_get-map (λ (b : NetId). b.0) group.bits k ∙ ap (option_map (λ (b : NetId). b.0)) own
+
     from : (n k : ℕ) → slice_get (port_nets groups port) k ≡ Some n → slice_get group.bits k ≡ Some (record { 0 = n })
     from n k own =
         let bit = option_map_some (λ (b : NetId). b.0) (slice_get group.bits k) n (sym (slice_get-map (λ (b : NetId). b.0) group.bits k) ∙ sym (ap (λ (o : Option Group). slice_get (option_map_or group_nets o []) k) at) ∙ own) in
@@ -161,9 +165,11 @@ pub marks_both : (count : ℕ) (start first both : List Bool) (P Q : ℕ → Typ
 marks_both count start first both P Q is p q = (q.size ∙ p.size ∙ ap length is ∙ length-replicate count false, λ n. (to n, from n))
   where
     to : (n : ℕ) → get_or both n false ≡ true → P n ⊎ Q n
-    to n t = elim ((q.marked n).0 t)
-      [ inl s ↦ elim ((p.marked n).0 s) [ inl o ↦ absurd (true≢false (sym o ∙ ap (λ xs. get_or xs n false) is ∙ blank count n)) | inr own ↦ inl own ]
-      | inr own ↦ inr own ]
+    to n t = elim ((q.marked n).0 t) [
+      | inl s ↦ elim ((p.marked n).0 s) [ inl o ↦ absurd (true≢false (sym o ∙ ap (λ xs. get_or xs n false) is ∙ blank count n)) | inr own ↦ inl own ]
+      | inr own ↦ inr own
+    ]
+
     from : (n : ℕ) → P n ⊎ Q n → get_or both n false ≡ true
     from n (inl own) = (q.marked n).1 (inl ((p.marked n).1 (inr own)))
     from n (inr own) = (q.marked n).1 (inr own)

@@ -1,5 +1,5 @@
 -- The name of each net bit, and the one net bit that a name has.
-use Rattle.std.proofs.Common.{◌≡◌, ◌≢◌, ℕ, zero, suc, ◌+◌, ◌-◌, ◌<◌, ◌≤◌, ◌^◌, Bool, true, false, List, [], ◌∷◌, ◌++◌, map, length, reverse, slice_get, get_or, Option, Some, None, IfSome, IfNone, IsSome, refl, ap, sym, subst, ◌∙◌, arith, ◌⊎◌, inl, inr, nat_le, if◌then◌else◌, filter_map, true≢false, is_some, decimal, append_assoc}
+use Rattle.std.proofs.Common.{◌≡◌, ◌≢◌, ℕ, zero, suc, ◌+◌, ◌-◌, ◌<◌, ◌≤◌, ◌^◌, true, false, List, [], ◌∷◌, ◌++◌, map, length, reverse, slice_get, Option, Some, None, IfSome, IfNone, IsSome, refl, ap, sym, subst, ◌∙◌, arith, ◌⊎◌, inl, inr, nat_le, if◌then◌else◌, filter_map, true≢false, is_some, decimal, append_assoc}
 use Rattle.std.proofs.lemmas.List.{get_or-reverse, length-reverse, length-map, append_cancel_right}
 use Rattle.std.proofs.lemmas.Fmt.{decimal_is_IsNumeral}
 use Rattle.std.specs.Str.Parse.{digits_value}
@@ -12,10 +12,10 @@ use Rattle.std.specs.Option.{option_map, option_map_or}
 use Rattle.net_core.specs.declared.parts.NetId.{NetId}
 use Rattle.net_core.specs.declared.parts.Group.{Group}
 use Rattle.net_core.specs.declared.parts.Cell.{Cell}
-use Rattle.net_core.specs.Netlist.{Netlist, parts_of, numbers, group_nets, all_nets, net_count, IsIn}
-use Rattle.net_core.specs.WellFormed.{IsFlat, AllDiffer, identifiers, bit_names, net_names, range_indices, indexed_name}
+use Rattle.net_core.specs.Netlist.{Netlist, parts_of, group_nets, net_count, IsIn}
+use Rattle.net_core.specs.WellFormed.{IsFlat, identifiers, bit_names, net_names, range_indices, indexed_name}
 use Rattle.net_core.specs.Lookup.{IsGroupNamed, IsNetNamed}
-use Rattle.net_core.proofs.ListLemmas.{option_map_some, slice_get_append, slice_get_left, slice_get_right, flat_map_some}
+use Rattle.net_core.proofs.ListLemmas.{option_map_some, slice_get_left, slice_get_right, flat_map_some}
 use Rattle.net_core.proofs.BitNameLemmas.{same_last, lacks_bracket}
 
 -- Ranges
@@ -59,30 +59,33 @@ index_from_left left right index low high =
 
 pub index_from_right : (left right index : ℕ) → left ≤ index → index ≤ right → slice_get (range_indices left right) (index - left) ≡ Some index
 index_from_right left right index low high =
-    elim (cases_lt left right)
-    [ inl up ↦ (let number : left + (index - left) ≡ index = omega arith in
-        ap (λ xs. slice_get xs (index - left)) (range_up left right up) ∙ range_at left (right - left + 1) (index - left) (omega arith) ∙ ap (λ v. Some v) number)
-    | inr down ↦ (let place : index - left ≡ left - index = omega arith in
-        ap (slice_get (range_indices left right)) place ∙ index_from_left left right index (omega arith) (omega arith)) ]
+    elim (cases_lt left right) [
+      | inl up ↦ (let number : left + (index - left) ≡ index = omega arith in
+          ap (λ xs. slice_get xs (index - left)) (range_up left right up) ∙ range_at left (right - left + 1) (index - left) (omega arith) ∙ ap (λ v. Some v) number)
+      | inr down ↦ (let place : index - left ≡ left - index = omega arith in
+          ap (slice_get (range_indices left right)) place ∙ index_from_left left right index (omega arith) (omega arith))
+    ]
 
 pub index_within : (left right i index : ℕ) → slice_get (range_indices left right) i ≡ Some index → ((right ≤ index) × (index ≤ left)) ⊎ ((left ≤ index) × (index ≤ right))
 index_within left right i index at =
-    elim (cases_lt left right)
-    [ inl up ↦ (let n = right - left + 1 in
-        let own = range_number left n i index (sym (ap (λ xs. slice_get xs i) (range_up left right up)) ∙ at) in
-        inr (omega (arith, own.0), omega (arith, own.0, own.1)))
-    | inr down ↦ (let n = left - right + 1 in
-        let size : length (range_with_len right n) ≡ n = length-range_with_len right n in
-        let turned : slice_get (reverse (range_with_len right n)) i ≡ Some index = sym (ap (λ xs. slice_get xs i) (range_down left right down)) ∙ at in
-        let within : i < length (range_with_len right n) = omega (arith, slice_get_within (reverse (range_with_len right n)) i index turned, length-reverse (range_with_len right n)) in
-        let own = range_number right n (length (range_with_len right n) - 1 - i) index (sym (reverse_at (range_with_len right n) i within) ∙ turned) in
-        inl (omega (arith, own.0), omega (arith, own.0, own.1))) ]
+    elim (cases_lt left right) [
+      | inl up ↦ (let n = right - left + 1 in
+          let own = range_number left n i index (sym (ap (λ xs. slice_get xs i) (range_up left right up)) ∙ at) in
+          inr (omega (arith, own.0), omega (arith, own.0, own.1)))
+      | inr down ↦ (let n = left - right + 1 in
+          let size : length (range_with_len right n) ≡ n = length-range_with_len right n in
+          let turned : slice_get (reverse (range_with_len right n)) i ≡ Some index = sym (ap (λ xs. slice_get xs i) (range_down left right down)) ∙ at in
+          let within : i < length (range_with_len right n) = omega (arith, slice_get_within (reverse (range_with_len right n)) i index turned, length-reverse (range_with_len right n)) in
+          let own = range_number right n (length (range_with_len right n) - 1 - i) index (sym (reverse_at (range_with_len right n) i within) ∙ turned) in
+          inl (omega (arith, own.0), omega (arith, own.0, own.1)))
+    ]
 
 pub index_outside : (left right index : ℕ) → ((right ≤ index) × (left < index)) ⊎ (index < right) → ((left ≤ index) × (right < index)) ⊎ (index < left) → ¬ IsIn (range_indices left right) index
 index_outside left right index down up (i, at) =
-    elim (index_within left right i index at)
-    [ inl own ↦ elim down [ inl high ↦ omega (arith, own.1, high.1) | inr low ↦ omega (arith, own.0, low) ]
-    | inr own ↦ elim up [ inl high ↦ omega (arith, own.1, high.1) | inr low ↦ omega (arith, own.0, low) ] ]
+    elim (index_within left right i index at) [
+      | inl own ↦ elim down [ inl high ↦ omega (arith, own.1, high.1) | inr low ↦ omega (arith, own.0, low) ]
+      | inr own ↦ elim up [ inl high ↦ omega (arith, own.1, high.1) | inr low ↦ omega (arith, own.0, low) ]
+    ]
 
 -- Names
 
@@ -95,9 +98,11 @@ joined_at {X} f g (z ∷ zs) same zero i x a b at left right =
     let is : x ≡ z = cc at in
     (i, slice_get_left (f z) (flat_map f zs) i a (sym (ap (λ (o : X). slice_get (f o) i) is) ∙ left), slice_get_left (g z) (flat_map g zs) i b (sym (ap (λ (o : X). slice_get (g o) i) is) ∙ right))
 joined_at f g (z ∷ zs) same (suc j) i x a b at left right =
-    let rest = joined_at f g zs (λ k. same (suc k)) j i x a b at left right in
-    (length (f z) + rest.0, slice_get_right (f z) (flat_map f zs) (length (f z) + rest.0) rest.0 a refl rest.1,
-     slice_get_right (g z) (flat_map g zs) (length (f z) + rest.0) rest.0 b (ap (λ k. k + rest.0) (same 0 z refl)) rest.2)
+    let rest = joined_at f g zs (λ k. same (suc k)) j i x a b at left right in (
+      length (f z) + rest.0,
+      slice_get_right (f z) (flat_map f zs) (length (f z) + rest.0) rest.0 a refl rest.1,
+      slice_get_right (g z) (flat_map g zs) (length (f z) + rest.0) rest.0 b (ap (λ k. k + rest.0) (same 0 z refl)) rest.2,
+    )
 
 only_name : (own : List ℕ) (i : ℕ) (name : List ℕ) → slice_get (own ∷ []) i ≡ Some name → own ≡ name
 only_name own zero name at = same_Some _ _ at
@@ -125,7 +130,7 @@ same_form : (a b : List ℕ) (i j : ℕ) → i < 2 ^ 32 → j < 2 ^ 32 → index
 same_form a b i j small small' is =
     let opened : (a ++ 91 ∷ []) ++ decimal i ≡ (b ++ 91 ∷ []) ++ decimal j = append_cancel_right ((a ++ 91 ∷ []) ++ decimal i) ((b ++ 91 ∷ []) ++ decimal j) (93 ∷ []) is in
     let parts = same_last 91 a (decimal i) b (decimal j) (lacks_bracket i small) (lacks_bracket j small')
-        (sym (append_assoc a (91 ∷ []) (decimal i)) ∙ opened ∙ append_assoc b (91 ∷ []) (decimal j)) in
+    (sym (append_assoc a (91 ∷ []) (decimal i)) ∙ opened ∙ append_assoc b (91 ∷ []) (decimal j)) in
     (parts.0, sym (decimal_is_IsNumeral i (omega arith)).1 ∙ ap (digits_value 10) parts.1 ∙ (decimal_is_IsNumeral j (omega arith)).1)
 
 module _ (net : Netlist) (flat : IsFlat net) where
@@ -134,7 +139,7 @@ module _ (net : Netlist) (flat : IsFlat net) where
       → slice_get (bit_names group) i ≡ Some name → IsNetNamed net name bit.0
   named_at j i group bit name at own named =
       let both = joined_at group_nets bit_names net.groups (λ k g there. length-map g.bits (λ (b : NetId). b.0) ∙ (flat.formed.ranges k g there).width) j i group bit.0 name at
-          (slice_get-map (λ (b : NetId). b.0) group.bits i ∙ ap (option_map (λ (b : NetId). b.0)) own) named in
+      (slice_get-map (λ (b : NetId). b.0) group.bits i ∙ ap (option_map (λ (b : NetId). b.0)) own) named in
       let number = range_number 0 (net_count net.groups) both.0 bit.0 (sym (ap (λ nets. slice_get nets both.0) flat.formed.numbering) ∙ both.1) in
       let place : bit.0 ≡ both.0 = number.0 ∙ (let e : 0 + both.0 ≡ both.0 = omega arith in e) in
       ap (slice_get (net_names net.groups)) place ∙ both.2
@@ -161,7 +166,7 @@ module _ (net : Netlist) (flat : IsFlat net) where
   pub scalar_there : (name : List ℕ) (group : Group) (r : Option NetId) (P : Type 0) → IsGroupNamed net name group → group.range ≡ None → r ≡ slice_get group.bits 0 → IfNone r P
   scalar_there name group None P named scalar is =
       let width : length group.bits ≡ 1 = (flat.formed.ranges named.number group named.at).width
-          ∙ ap (λ range. length (option_map_or (λ (ends : ℕ × ℕ). map (indexed_name group.name) (range_indices ends.0 ends.1)) range (group.name ∷ []))) scalar in
+      ∙ ap (λ range. length (option_map_or (λ (ends : ℕ × ℕ). map (indexed_name group.name) (range_indices ends.0 ends.1)) range (group.name ∷ []))) scalar in
       absurd (none-some _ (is ∙ slice_get-get_or group.bits 0 (record { 0 = 0 }) (omega (arith, width))))
   scalar_there name group (Some bit) P named scalar is = tt
 
@@ -172,14 +177,14 @@ module _ (net : Netlist) (flat : IsFlat net) where
   vector_found front group left right place index (Some bit) named range at is =
       named_at named.number place group bit (indexed_name front index) named.at (sym is)
       (ap (λ (ends : Option (ℕ × ℕ)). slice_get (option_map_or (λ (ends : ℕ × ℕ). map (indexed_name group.name) (range_indices ends.0 ends.1)) ends (group.name ∷ [])) place) range
-       ∙ slice_get-map (indexed_name group.name) (range_indices left right) place ∙ ap (option_map (indexed_name group.name)) at ∙ ap (λ n. Some (indexed_name n index)) named.named)
+      ∙ slice_get-map (indexed_name group.name) (range_indices left right) place ∙ ap (option_map (indexed_name group.name)) at ∙ ap (λ n. Some (indexed_name n index)) named.named)
 
   pub vector_there : (front : List ℕ) (group : Group) (left right place index : ℕ) (r : Option NetId) (P : Type 0) → IsGroupNamed net front group → group.range ≡ Some (left, right)
       → slice_get (range_indices left right) place ≡ Some index → r ≡ slice_get group.bits place → IfNone r P
   vector_there front group left right place index None P named range at is =
       let width : length group.bits ≡ length (range_indices left right) = (flat.formed.ranges named.number group named.at).width
-          ∙ ap (λ (ends : Option (ℕ × ℕ)). length (option_map_or (λ (ends : ℕ × ℕ). map (indexed_name group.name) (range_indices ends.0 ends.1)) ends (group.name ∷ []))) range
-          ∙ length-map (range_indices left right) (indexed_name group.name) in
+      ∙ ap (λ (ends : Option (ℕ × ℕ)). length (option_map_or (λ (ends : ℕ × ℕ). map (indexed_name group.name) (range_indices ends.0 ends.1)) ends (group.name ∷ []))) range
+      ∙ length-map (range_indices left right) (indexed_name group.name) in
       absurd (none-some _ (is ∙ slice_get-get_or group.bits place (record { 0 = 0 }) (omega (arith, width, slice_get_within (range_indices left right) place index at))))
   vector_there front group left right place index (Some bit) P named range at is = tt
 
@@ -196,11 +201,11 @@ module _ (net : Netlist) (flat : IsFlat net) where
           ⊎ ((group : Group) × (range : ℕ × ℕ) × (index : ℕ) × IsGroupNamed net group.name group × (group.range ≡ Some range) × IsIn (range_indices range.0 range.1) index × (index < 2 ^ 32) × (name ≡ indexed_name group.name index))
       by j group None i at named range =
           let only : slice_get (group.name ∷ []) i ≡ Some name =
-              sym (ap (λ (ends : Option (ℕ × ℕ)). slice_get (option_map_or (λ (ends : ℕ × ℕ). map (indexed_name group.name) (range_indices ends.0 ends.1)) ends (group.name ∷ [])) i) range) ∙ named in
+          sym (ap (λ (ends : Option (ℕ × ℕ)). slice_get (option_map_or (λ (ends : ℕ × ℕ). map (indexed_name group.name) (range_indices ends.0 ends.1)) ends (group.name ∷ [])) i) range) ∙ named in
           inl (group, record { number = j; at = at; named = only_name group.name i name only }, range)
       by j group (Some ends) i at named range =
           let listed : slice_get (map (indexed_name group.name) (range_indices ends.0 ends.1)) i ≡ Some name =
-              sym (ap (λ (ends : Option (ℕ × ℕ)). slice_get (option_map_or (λ (ends : ℕ × ℕ). map (indexed_name group.name) (range_indices ends.0 ends.1)) ends (group.name ∷ [])) i) range) ∙ named in
+          sym (ap (λ (ends : Option (ℕ × ℕ)). slice_get (option_map_or (λ (ends : ℕ × ℕ). map (indexed_name group.name) (range_indices ends.0 ends.1)) ends (group.name ∷ [])) i) range) ∙ named in
           let own = option_map_some (indexed_name group.name) (slice_get (range_indices ends.0 ends.1) i) name (sym (slice_get-map (indexed_name group.name) (range_indices ends.0 ends.1) i) ∙ listed) in
           let limits = at_some (λ (r : ℕ × ℕ). (r.0 ≤ 1048575) × (r.1 ≤ 1048575)) group.range ends (flat.formed.ranges j group at).indices range in
           inr (group, ends, own.0, record { number = j; at = at; named = refl }, range, (i, own.1), index_small ends.0 ends.1 i own.0 own.1 limits.0 limits.1, sym own.2)
@@ -208,16 +213,18 @@ module _ (net : Netlist) (flat : IsFlat net) where
   pub no_net_whole : (name : List ℕ) (number : ℕ) → ((group : Group) → IsGroupNamed net name group → IsSome group.range)
       → ((front : List ℕ) (index : ℕ) → index < 2 ^ 32 → name ≢ indexed_name front index) → ¬ IsNetNamed net name number
   no_net_whole name number vectors whole is =
-      elim (bit_cases name number is)
-      [ inl own ↦ true≢false (sym (vectors own.0 own.1) ∙ ap is_some own.2)
-      | inr own ↦ whole own.0.name own.2 own.6 own.7 ]
+      elim (bit_cases name number is) [
+        | inl own ↦ true≢false (sym (vectors own.0 own.1) ∙ ap is_some own.2)
+        | inr own ↦ whole own.0.name own.2 own.6 own.7
+      ]
 
   pub no_net_bit : (name front : List ℕ) (index number : ℕ) → index < 2 ^ 32 → ((group : Group) → IsGroupNamed net name group → IsSome group.range)
       → name ≡ indexed_name front index → ((group : Group) (range : ℕ × ℕ) → IsGroupNamed net front group → group.range ≡ Some range → ¬ IsIn (range_indices range.0 range.1) index)
       → ¬ IsNetNamed net name number
   no_net_bit name front index number small vectors split missing is =
-      elim (bit_cases name number is)
-      [ inl own ↦ true≢false (sym (vectors own.0 own.1) ∙ ap is_some own.2)
-      | inr own ↦ (
-        let same = same_form front own.0.name index own.2 small own.6 (sym split ∙ own.7) in
-        missing own.0 own.1 (record { number = own.3.number; at = own.3.at; named = sym same.0 }) own.4 (subst (IsIn (range_indices own.1.0 own.1.1)) (sym same.1) own.5)) ]
+      elim (bit_cases name number is) [
+        | inl own ↦ true≢false (sym (vectors own.0 own.1) ∙ ap is_some own.2)
+        | inr own ↦ (
+            let same = same_form front own.0.name index own.2 small own.6 (sym split ∙ own.7) in
+            missing own.0 own.1 (record { number = own.3.number; at = own.3.at; named = sym same.0 }) own.4 (subst (IsIn (range_indices own.1.0 own.1.1)) (sym same.1) own.5))
+      ]

@@ -1,18 +1,17 @@
 -- The tables of names, as they grow.
-use Rattle.std.proofs.Common.{◌≡◌, ℕ, zero, suc, ◌+◌, ◌<◌, Bool, List, [], ◌∷◌, ◌++◌, map, length, take, get_or, slice_get, Option, Some, None, refl, ap, sym, ◌∙◌, arith, append-nil}
+use Rattle.std.proofs.Common.{◌≡◌, ℕ, zero, suc, ◌+◌, ◌<◌, List, [], ◌∷◌, ◌++◌, map, length, take, slice_get, Option, Some, None, refl, ap, ◌∙◌, arith, append-nil}
 use Rattle.std.specs.List.{enumerate_from, filter_map, cons_option}
 use Rattle.std.specs.Option.{option_map}
 use Rattle.std.specs.Map.{lookup}
 use Rattle.std.specs.Str.{bytes_eq}
-use Rattle.std.proofs.lemmas.List.{length-take, take-append-drop}
+use Rattle.std.proofs.lemmas.List.{length-take}
 use Rattle.std.proofs.lemmas.List.Elements.{filter_map-append}
-use Rattle.std.proofs.lemmas.Option.{slice_get_within, slice_get-map, same_Some, none-some}
-use Rattle.net_core.specs.declared.parts.NetId.{NetId}
+use Rattle.std.proofs.lemmas.Option.{slice_get_within, slice_get-map, same_Some}
 use Rattle.net_core.specs.declared.parts.Cell.{Cell}
 use Rattle.net_core.specs.declared.parts.Group.{Group}
 use Rattle.net_core.specs.Netlist.{Netlist}
 use Rattle.net_core.specs.WellFormed.{AllDiffer}
-use Rattle.net_core.specs.Lookup.{named_groups, named_cells, IsCellNamed}
+use Rattle.net_core.specs.Lookup.{named_groups, named_cells}
 use Rattle.net_core.proofs.ListLemmas.{filter_map_at}
 use Rattle.net_core.proofs.LookupLemmas.{group_there, group_found, cell_found}
 
@@ -77,8 +76,8 @@ group_absent groups i group differ at = not_found _ (λ k found.
     let named = group_found (net_of (take i groups) []) group.name k found there.0 there.1 in
     let own = taken groups i k there.0 there.1 in
     let same : k ≡ i = differ k i group.name
-        (slice_get-map (λ (g : Group). g.name) groups k ∙ ap (option_map (λ (g : Group). g.name)) own.0 ∙ ap (λ n. Some n) named.named)
-        (slice_get-map (λ (g : Group). g.name) groups i ∙ ap (option_map (λ (g : Group). g.name)) at) in
+    (slice_get-map (λ (g : Group). g.name) groups k ∙ ap (option_map (λ (g : Group). g.name)) own.0 ∙ ap (λ n. Some n) named.named)
+    (slice_get-map (λ (g : Group). g.name) groups i ∙ ap (option_map (λ (g : Group). g.name)) at) in
     omega (arith, own.1))
 
 rest_differ : {Y : Type 0} (o : Option Y) (rest : List Y) → AllDiffer (cons_option o rest) → AllDiffer rest

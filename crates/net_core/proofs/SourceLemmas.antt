@@ -1,5 +1,5 @@
 -- The net from which clock buffers make each net.
-use Rattle.std.proofs.Common.{◌≡◌, ◌≢◌, ℕ, zero, suc, ◌+◌, ◌*◌, ◌^◌, ◌<◌, ◌≤◌, Bool, true, false, List, [], ◌∷◌, ◌++◌, length, get_or, set, map, slice_get, slice_index, Option, Some, None, ◌⊎◌, inl, inr, refl, ap, sym, ◌∙◌, subst, arith, get_or-set_same, get_or-set_other, All, pow-suc}
+use Rattle.std.proofs.Common.{◌≡◌, ◌≢◌, ℕ, zero, suc, ◌+◌, ◌*◌, ◌^◌, ◌<◌, ◌≤◌, List, [], ◌∷◌, ◌++◌, length, get_or, set, map, slice_get, slice_index, Option, Some, None, ◌⊎◌, inl, inr, refl, ap, sym, ◌∙◌, subst, arith, get_or-set_same, get_or-set_other, All, pow-suc}
 use Rattle.std.proofs.Math.ListN.{length-set}
 use Rattle.std.proofs.lemmas.Bool.{cases_eq}
 use Rattle.std.proofs.lemmas.List.{length-map, get_or-map}
@@ -9,7 +9,6 @@ use Rattle.std.proofs.lemmas.List.FromFn.{get_or-range_with_len, length-range_wi
 use Rattle.net_core.specs.declared.parts.NetId.{NetId}
 use Rattle.net_core.specs.declared.parts.Cell.{Cell}
 use Rattle.net_core.specs.Tables.{Writes, IsOn, IsBufferFrom, IsBufferInput, AreSources, AreBack, iterated}
-use Rattle.net_core.specs.Netlist.{Drives, Reads, HasDriver}
 use Rattle.net_core.proofs.MarkLemmas.{Below, OutAt}
 
 -- Writing a number for the nets of output pins
@@ -29,9 +28,10 @@ out_written outs i net old now value at room first = record { size = length-set 
     by n (inr was) (inr other) = inr (none, get_or-set_other now net.0 n value 0 other ∙ was.1)
       where
         none : ¬ Below (OutAt outs) (i + 1) n
-        none (k, low, on) = elim (cases_eq k i)
-          [ inl same ↦ other (ap (λ (m : NetId). m.0) (same_Some _ _ (same_Some _ _ (sym on ∙ ap (slice_get outs) same ∙ at))))
-          | inr before ↦ was.0 (k, omega (arith, low, before), on) ]
+        none (k, low, on) = elim (cases_eq k i) [
+          | inl same ↦ other (ap (λ (m : NetId). m.0) (same_Some _ _ (same_Some _ _ (sym on ∙ ap (slice_get outs) same ∙ at))))
+          | inr before ↦ was.0 (k, omega (arith, low, before), on)
+        ]
 
 pub out_skipped : (outs : List (Option NetId)) (i : ℕ) (old now : List ℕ) (value : ℕ) → slice_get outs i ≡ Some None
     → Writes old now (Below (OutAt outs) i) value → Writes old now (Below (OutAt outs) (i + 1)) value
@@ -43,9 +43,10 @@ out_skipped outs i old now value at first = record { size = first.size; each = �
     by n (inr was) = inr (none, was.1)
       where
         none : ¬ Below (OutAt outs) (i + 1) n
-        none (k, low, on) = elim (cases_eq k i)
-          [ inl same ↦ none-some (record { 0 = n }) (same_Some _ _ (sym at ∙ ap (slice_get outs) (sym same) ∙ on))
-          | inr before ↦ was.0 (k, omega (arith, low, before), on) ]
+        none (k, low, on) = elim (cases_eq k i) [
+          | inl same ↦ none-some (record { 0 = n }) (same_Some _ _ (sym at ∙ ap (slice_get outs) (sym same) ∙ on))
+          | inr before ↦ was.0 (k, omega (arith, low, before), on)
+        ]
 
 pub outs_written : (outs : List (Option NetId)) (i : ℕ) (old now : List ℕ) (value : ℕ) → length outs ≤ i → Writes old now (Below (OutAt outs) i) value → Writes old now (IsOn outs) value
 outs_written outs i old now value end all = record { size = all.size; each = λ n within. by n (all.each n within) }
@@ -67,9 +68,9 @@ pub record SourcesBelow (cells : List Cell) (i count : ℕ) (sources : List ℕ)
 pub source_written : (cells : List Cell) (i count : ℕ) (cell : Cell) (m : ℕ) (now next : List ℕ) → slice_get cells i ≡ Some cell → IsBufferInput cell m
     → SourcesBelow cells i count now → Writes now next (IsOn cell.outs) m → SourcesBelow cells (i + 1) count next
 source_written cells i count cell m now next at input first written = record {
-    size = written.size ∙ first.size;
-    each = λ n within. by n (first.each n within) (written.each n (omega (arith, first.size, within)));
-  }
+  size = written.size ∙ first.size;
+  each = λ n within. by n (first.each n within) (written.each n (omega (arith, first.size, within)));
+}
   where
     by : (n : ℕ)
         → ((m : ℕ) × (from : IsBufferFrom cells m n) × (from.c < i) × (get_or now n 0 ≡ m)) ⊎ (((m : ℕ) (from : IsBufferFrom cells m n) → from.c < i → ⊥) × (get_or now n 0 ≡ n))
@@ -81,9 +82,10 @@ source_written cells i count cell m now next at input first written = record {
     by n (inr was) (inr off) = inr (none, off.1 ∙ was.1)
       where
         none : (m : ℕ) (from : IsBufferFrom cells m n) → from.c < i + 1 → ⊥
-        none m' from low = elim (cases_eq from.c i)
-          [ inl same ↦ off.0 (from.k, subst (λ (o : Cell). slice_get o.outs from.k ≡ Some (Some (record { 0 = n }))) (same_Some _ _ (sym from.drives.at ∙ ap (slice_get cells) same ∙ at)) from.drives.on)
-          | inr before ↦ was.0 m' from (omega (arith, low, before)) ]
+        none m' from low = elim (cases_eq from.c i) [
+          | inl same ↦ off.0 (from.k, subst (λ (o : Cell). slice_get o.outs from.k ≡ Some (Some (record { 0 = n }))) (same_Some _ _ (sym from.drives.at ∙ ap (slice_get cells) same ∙ at)) from.drives.on)
+          | inr before ↦ was.0 m' from (omega (arith, low, before))
+        ]
 
 pub source_skipped : (cells : List Cell) (i count : ℕ) (cell : Cell) (now : List ℕ) → slice_get cells i ≡ Some cell → ((m : ℕ) → ¬ IsBufferInput cell m)
     → SourcesBelow cells i count now → SourcesBelow cells (i + 1) count now
@@ -96,10 +98,11 @@ source_skipped cells i count cell now at no_input first = record { size = first.
     by n (inr was) = inr (none, was.1)
       where
         none : (m : ℕ) (from : IsBufferFrom cells m n) → from.c < i + 1 → ⊥
-        none m from low = elim (cases_eq from.c i)
-          [ inl same ↦ (let own : from.cell ≡ cell = same_Some _ _ (sym from.reads.at ∙ ap (slice_get cells) same ∙ at) in
-            no_input m (subst (λ (o : Cell). IsBufferInput o m) own (record { buffer = from.buffer; pin = from.reads.from })))
-          | inr before ↦ was.0 m from (omega (arith, low, before)) ]
+        none m from low = elim (cases_eq from.c i) [
+          | inl same ↦ (let own : from.cell ≡ cell = same_Some _ _ (sym from.reads.at ∙ ap (slice_get cells) same ∙ at) in
+              no_input m (subst (λ (o : Cell). IsBufferInput o m) own (record { buffer = from.buffer; pin = from.reads.from })))
+          | inr before ↦ was.0 m from (omega (arith, low, before))
+        ]
 
 pub sources_all : (cells : List Cell) (i count : ℕ) (now : List ℕ) → length cells ≤ i → SourcesBelow cells i count now → AreSources cells count now
 sources_all cells i count now end all = record { size = all.size; each = λ n within. by n (all.each n within) }
@@ -123,28 +126,29 @@ iterated-one f n = refl
 
 pub sources_none : (cells : List Cell) (count : ℕ) (now : List ℕ) → now ≡ range_with_len 0 count → SourcesBelow cells 0 count now
 sources_none cells count now is = record {
-    size = ap length is ∙ length-range_with_len 0 count;
-    each = λ n within. inr ((λ m from low. omega (arith, low)), ap (λ xs. get_or xs n 0) is ∙ get_or-range_with_len 0 count n 0 within ∙ (let e : 0 + n ≡ n = omega arith in e));
-  }
+  size = ap length is ∙ length-range_with_len 0 count;
+  each = λ n within. inr ((λ m from low. omega (arith, low)), ap (λ xs. get_or xs n 0) is ∙ get_or-range_with_len 0 count n 0 within ∙ (let e : 0 + n ≡ n = omega arith in e));
+}
 
 pub back_none : (sources : List ℕ) → All (λ source. source < length sources) sources → AreBack sources 1 sources
 back_none sources within = record { size = refl; each = λ n low. sym (iterated-one (slice_index sources) n); within = within }
 
 pub back_twice : (sources back twice : List ℕ) (steps : ℕ) → AreBack sources steps back → twice ≡ map (λ source. slice_index back source) back → AreBack sources (steps + steps) twice
 back_twice sources back twice steps first is = record {
-    size = size;
-    each = λ n low.
-        let inside : get_or back n 0 < length sources = omega (arith, first.within n 0 (omega (arith, first.size, low)), first.size) in
-        at n (omega (arith, first.size, low)) ∙ first.each (get_or back n 0) inside ∙ ap (iterated (slice_index sources) steps) (first.each n low) ∙ sym (iterated-add (slice_index sources) steps steps n);
-    within = λ k d low.
-        let below : k < length back = omega (arith, size, first.size, low) in
-        let read : get_or twice k d ≡ get_or back (get_or back k 0) 0 = ap (λ xs. get_or xs k d) is ∙ get_or-map (λ source. slice_index back source) back k 0 d below in
-        let bound : get_or back (get_or back k 0) 0 < length back = first.within (get_or back k 0) 0 (first.within k 0 below) in
-        omega (arith, read, bound, size, first.size);
-  }
+  size = size;
+  each = λ n low.
+      let inside : get_or back n 0 < length sources = omega (arith, first.within n 0 (omega (arith, first.size, low)), first.size) in
+      at n (omega (arith, first.size, low)) ∙ first.each (get_or back n 0) inside ∙ ap (iterated (slice_index sources) steps) (first.each n low) ∙ sym (iterated-add (slice_index sources) steps steps n);
+  within = λ k d low.
+      let below : k < length back = omega (arith, size, first.size, low) in
+      let read : get_or twice k d ≡ get_or back (get_or back k 0) 0 = ap (λ xs. get_or xs k d) is ∙ get_or-map (λ source. slice_index back source) back k 0 d below in
+      let bound : get_or back (get_or back k 0) 0 < length back = first.within (get_or back k 0) 0 (first.within k 0 below) in
+      omega (arith, read, bound, size, first.size);
+}
   where
     size : length twice ≡ length sources
     size = ap length is ∙ length-map back (λ source. slice_index back source) ∙ first.size
+
     at : (n : ℕ) → n < length back → get_or twice n 0 ≡ get_or back (get_or back n 0) 0
     at n low = ap (λ xs. get_or xs n 0) is ∙ get_or-map (λ source. slice_index back source) back n 0 0 low
 

@@ -7,7 +7,7 @@
 --     content_size, initial, next_content     the stored bits: how many, at clock 0, and at the next clock
 --
 -- A new kind is one line in each. All else speaks of kinds through these functions.
-use Rattle.std.specs.Prelude.{◌≡◌, ℕ, zero, suc, ◌+◌, ◌-◌, ◌*◌, ◌/◌, ◌%◌, ◌^◌, ◌<◌, ◌≤◌, Bool, true, false, not, ◌&&◌, ◌||◌, ◌==◌, nat_lt, nat_le, if◌then◌else◌, List, [], ◌∷◌, length, take, drop, reverse, replicate, fold, sum, count_by, slice_index_or, Option, Some, None, MatchOption, ⊤}
+use Rattle.std.specs.Prelude.{◌≡◌, ℕ, zero, suc, ◌+◌, ◌-◌, ◌*◌, ◌/◌, ◌%◌, ◌^◌, ◌<◌, ◌≤◌, Bool, true, false, not, ◌&&◌, ◌||◌, ◌==◌, nat_lt, nat_le, if◌then◌else◌, List, [], ◌∷◌, take, drop, reverse, replicate, fold, sum, count_by, slice_index_or, Option, Some, None, MatchOption, ⊤}
 use Rattle.std.specs.List.{list_all, list_any}
 use Rattle.std.specs.Bool.{xor}
 use Rattle.std.specs.Int.{bit_at}

@@ -1,5 +1,5 @@
 -- Combinational dependence: which net a net depends on at one clock, cycles of it, and numbers that rise along it.
-use Rattle.std.specs.Prelude.{◌≡◌, ℕ, ◌+◌, ◌<◌, Bool, true, List, length, slice_get, Some}
+use Rattle.std.specs.Prelude.{◌≡◌, ℕ, ◌+◌, ◌<◌, true, List, length, slice_get, Some}
 use Rattle.net_core.specs.declared.parts.Cell.{Cell}
 use Rattle.net_core.specs.CellTable.{depends}
 use Rattle.net_core.specs.Netlist.{Netlist, Drives, Reads, IsData}

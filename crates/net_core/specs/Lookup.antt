@@ -1,5 +1,5 @@
 -- Which group, cell or net bit has a name.
-use Rattle.std.specs.Prelude.{◌≡◌, ℕ, List, map, filter_map, slice_get, Option, Some}
+use Rattle.std.specs.Prelude.{◌≡◌, ℕ, List, map, filter_map, slice_get, Some}
 use Rattle.std.specs.List.{enumerate_from}
 use Rattle.std.specs.Option.{option_map}
 use Rattle.net_core.specs.declared.parts.Cell.{Cell}

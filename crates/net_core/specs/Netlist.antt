@@ -1,9 +1,8 @@
 -- A flat netlist as clauses see it: its groups of nets, cells, ports and clock, which net a pin drives or reads, and which
 -- nets are driven, carry the clock, or carry data.
-use Rattle.std.specs.Prelude.{◌≡◌, ℕ, Bool, true, false, not, List, [], ◌∷◌, map, filter, flat_map, sum_by, length, slice_get, slice_index_or, Option, Some, None, ◌⊎◌}
+use Rattle.std.specs.Prelude.{◌≡◌, ℕ, Bool, true, false, not, List, [], ◌∷◌, map, filter, flat_map, sum_by, length, slice_get, slice_index_or, Some, ◌⊎◌}
 use Rattle.std.specs.Option.{option_map_or}
 use Rattle.net_core.specs.declared.parts.NetId.{NetId}
-use Rattle.net_core.specs.declared.parts.Pin.{Pin}
 use Rattle.net_core.specs.declared.parts.Pin.TheVariants as pins
 use Rattle.net_core.specs.declared.parts.Cell.{Cell}
 use Rattle.net_core.specs.declared.parts.Group.{Group}
@@ -79,7 +78,7 @@ IsDriven parts n = IsIn (input_bits parts) n ⊎ HasDriver parts.cells n
 pub data IsBuffered (cells : List Cell) (from : ℕ) : ℕ → Type 0 where
   itself : IsBuffered cells from from
   through : {m n : ℕ} (c : ℕ) (cell : Cell) (k : ℕ) → is_clock_buffer cell.kind ≡ true → Reads cells c cell 0 m
-    → Drives cells c cell k n → IsBuffered cells from m → IsBuffered cells from n
+      → Drives cells c cell k n → IsBuffered cells from m → IsBuffered cells from n
 
 -- n is the one bit of the clock port: the input from which the netlist's clock comes
 pub record IsClockPort (parts : Parts) (n : ℕ) : Type 0 where

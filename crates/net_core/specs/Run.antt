@@ -26,7 +26,7 @@ input_pins bit cell = map (pin_bit bit) cell.ins
 pub record IsSettled (net : Netlist) (row : List Bool) (bit : ℕ → Bool) (content : ℕ → ℕ → Bool) : Type 0 where
   pub inputs : map bit (input_nets net) ≡ row
   pub outputs : (c : ℕ) (cell : Cell) (k n : ℕ) → Drives net.cells c cell k n → IsData net n
-    → bit n ≡ output cell.kind (input_pins bit cell) (content c) k
+      → bit n ≡ output cell.kind (input_pins bit cell) (content c) k
 
 -- at clock 0 each cell stores its initial bits
 abbrev pub IsStart : Netlist → (ℕ → ℕ → Bool) → Type 0

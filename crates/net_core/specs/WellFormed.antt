@@ -1,5 +1,5 @@
 -- What every flat netlist keeps.
-use Rattle.std.specs.Prelude.{◌≡◌, ℕ, ◌+◌, ◌-◌, ◌<◌, ◌≤◌, Bool, true, false, is_some, IsSome, List, [], ◌∷◌, ◌++◌, length, map, reverse, take, drop, filter_map, flat_map, sum_by, slice_get, if◌then◌else◌, nat_le, Option, Some, None, IfSome, MatchOption, MatchBool, ⊤, ◌⊎◌, ◌↔◌, decimal, codes}
+use Rattle.std.specs.Prelude.{◌≡◌, ℕ, ◌+◌, ◌-◌, ◌<◌, ◌≤◌, true, false, is_some, IsSome, List, [], ◌∷◌, ◌++◌, length, map, reverse, take, drop, filter_map, flat_map, sum_by, slice_get, if◌then◌else◌, nat_le, Option, Some, None, IfSome, MatchOption, MatchBool, ⊤, ◌⊎◌, ◌↔◌, decimal, codes}
 use Rattle.std.specs.List.{range_with_len}
 use Rattle.std.specs.Option.{option_map_or}
 use Rattle.net_core.specs.declared.parts.NetId.{NetId}

@@ -13,7 +13,9 @@ use crate::parts::{CellId, NetId};
 pub trait Machine {
     // The netlist, the kept bit of each net, and the kept stored bits of each cell.
     ghost netlist: { Self → Netlist };
+
     ghost bit: { Self → ℕ → Bool };
+
     ghost content: { Self → ℕ → ℕ → Bool };
 
     /// One clock edge. `inputs` has a bit for each data input bit, in port order and each port's

@@ -145,10 +145,12 @@ fn sources_of_sources(alloc: Global, sources: &[u32]) -> Result<Vec<u32>, NoMemo
     requires { All (λ source. source < length sources.now) sources.now }
     ensures { IfOk result (λ twice. twice.items ≡ map (λ source. slice_index sources.now source) sources.now) }
 {
-    Ok(sources
-        .iter()
-        .map(|source| sources[*source as usize])
-        .collect(alloc)?)
+    Ok(
+        sources
+            .iter()
+            .map(|source| sources[*source as usize])
+            .collect(alloc)?,
+    )
 }
 
 // For each net the net that 2^20 clock buffers back. There are no more nets than that, so none is

@@ -1,4 +1,4 @@
-use Rattle.std.proofs.Common.{◌≡◌, ℕ, List, Some, None, true≢false, ◌++◌, ◌∷◌, [], ap, sym, ◌∙◌, codes, decimal, arith}
+use Rattle.std.proofs.Common.{◌≡◌, Some, None, true≢false, ◌++◌, ◌∷◌, [], ap, sym, ◌∙◌, codes, decimal, arith}
 use Rattle.std.proofs.lemmas.Str.Pattern.{strip_suffix_char}
 use Rattle.std.proofs.lemmas.Option.{none-some, same_Some}
 use Rattle.std.proofs.lemmas.Slice.Eq.{bytes_eq-Decides}
@@ -22,23 +22,23 @@ returns-in_err-front-clause-whole c =
 pub returns-in_err-index-clause-whole : goal.returns-in_err-index-clause-whole
 returns-in_err-index-clause-whole c =
     rw c.from_residual-in_err-index.ensures (λ front index small is.
-        let parts = split (goal.at.returns-in_err-index-clause-whole c).In_ok-front in
-        let digits = same_parts c.args.name.now c.in_ok-open.open.now c.in_ok-front.front.now c.in_ok-front.digits.now front index
-            (closed (goal.at.returns-in_err-index-clause-whole c).In_ok-open) parts.0 parts.1 small is in
-        none-some index (sym c.in_err-index.was ∙ read_back c.in_ok-front.digits.now index c.parse.result c.ok.result digits small c.parse.ensures.value.0 c.ok.ensures.value))
+    let parts = split (goal.at.returns-in_err-index-clause-whole c).In_ok-front in
+    let digits = same_parts c.args.name.now c.in_ok-open.open.now c.in_ok-front.front.now c.in_ok-front.digits.now front index
+    (closed (goal.at.returns-in_err-index-clause-whole c).In_ok-open) parts.0 parts.1 small is in
+    none-some index (sym c.in_err-index.was ∙ read_back c.in_ok-front.digits.now index c.parse.result c.ok.result digits small c.parse.ensures.value.0 c.ok.ensures.value))
 
 pub returns-then-eq-clause-split : goal.returns-then-eq-clause-split
 returns-then-eq-clause-split c =
     let shown : c.format.result.now ≡ c.in_ok-front.digits.now = (bytes_eq-Decides c.format.result.now c.in_ok-front.digits.now).0 (sym c.if-eq.ensures) in
     put_together c.args.name.now c.in_ok-open.open.now c.in_ok-front.front.now c.in_ok-front.digits.now c.in_ok-index.index
-        (closed (goal.at.returns-then-eq-clause-split c).In_ok-open) (split (goal.at.returns-then-eq-clause-split c).In_ok-front).0 (sym shown ∙ c.format.ensures.text)
+    (closed (goal.at.returns-then-eq-clause-split c).In_ok-open) (split (goal.at.returns-then-eq-clause-split c).In_ok-front).0 (sym shown ∙ c.format.ensures.text)
 
 pub returns-else-eq-clause-whole : goal.returns-else-eq-clause-whole
 returns-else-eq-clause-whole c = λ front index small is.
     let parts = split (goal.at.returns-else-eq-clause-whole c).In_ok-front in
     let digits = same_parts c.args.name.now c.in_ok-open.open.now c.in_ok-front.front.now c.in_ok-front.digits.now front index
-        (closed (goal.at.returns-else-eq-clause-whole c).In_ok-open) parts.0 parts.1 small is in
+    (closed (goal.at.returns-else-eq-clause-whole c).In_ok-open) parts.0 parts.1 small is in
     let same : c.in_ok-index.index ≡ index =
-        same_Some _ _ (sym c.in_ok-index.was ∙ read_back c.in_ok-front.digits.now index c.parse.result c.ok.result digits small c.parse.ensures.value.0 c.ok.ensures.value) in
+    same_Some _ _ (sym c.in_ok-index.was ∙ read_back c.in_ok-front.digits.now index c.parse.result c.ok.result digits small c.parse.ensures.value.0 c.ok.ensures.value) in
     let shown : c.format.result.now ≡ c.in_ok-front.digits.now = c.format.ensures.text ∙ ap decimal same ∙ sym digits in
     true≢false (sym ((bytes_eq-Decides c.format.result.now c.in_ok-front.digits.now).1 shown) ∙ sym c.if-eq.ensures)

@@ -1,4 +1,4 @@
-use Rattle.std.proofs.Common.{◌≡◌, refl, ap, sym, ◌∙◌, List, ℕ, None, ◌++◌, ◌∷◌, []}
+use Rattle.std.proofs.Common.{refl, ap, sym, ◌∙◌, List, ℕ, ◌++◌, ◌∷◌, []}
 use Rattle.std.proofs.lemmas.Option.{slice_get_read}
 use Rattle.std.specs.Map.{lookup}
 use Rattle.std.specs.Str.{bytes_eq}
@@ -15,9 +15,10 @@ add-requires c =
 pub loop-number-preserved : goal.loop-number-preserved
 loop-number-preserved c =
     let at = slice_get_read c.args.cells.now _ c.loop-number.number c.index-cells-number.result refl c.loop-number-test.true c.index-cells-number.is in
-    elim c.match-cell.branch
-    [ in-Some+in_ok-add-in-Some w ↦ (
-        w.table-is ∙ w.in_ok-add-in-Some.ensures.ok ∙ ap (λ (name : List ℕ). c.loop-number.table ++ (name, c.loop-number.number) ∷ []) w.bytes.ensures
-        ∙ ap (λ table. table ++ (w.in-Some.name, c.loop-number.number) ∷ []) c.loop-number.invariant
-        ∙ sym (cells_named_more c.args.cells.now c.loop-number.number c.index-cells-number.result w.in-Some.name at w.in-Some.is))
-    | in-None w ↦ (w.table-is ∙ c.loop-number.invariant ∙ sym (cells_unnamed_more c.args.cells.now c.loop-number.number c.index-cells-number.result at w.in-None.is)) ]
+    elim c.match-cell.branch [
+      | in-Some+in_ok-add-in-Some w ↦ (
+          w.table-is ∙ w.in_ok-add-in-Some.ensures.ok ∙ ap (λ (name : List ℕ). c.loop-number.table ++ (name, c.loop-number.number) ∷ []) w.bytes.ensures
+          ∙ ap (λ table. table ++ (w.in-Some.name, c.loop-number.number) ∷ []) c.loop-number.invariant
+          ∙ sym (cells_named_more c.args.cells.now c.loop-number.number c.index-cells-number.result w.in-Some.name at w.in-Some.is))
+      | in-None w ↦ (w.table-is ∙ c.loop-number.invariant ∙ sym (cells_unnamed_more c.args.cells.now c.loop-number.number c.index-cells-number.result at w.in-None.is))
+    ]

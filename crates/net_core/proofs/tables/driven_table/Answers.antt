@@ -16,5 +16,5 @@ mark_outputs-requires c = λ n own.
 pub returns : goal.returns
 returns c =
     let both = marks_both c.args.count c.in_ok-driven.driven.items c.mark_inputs.new.marks.items c.mark_outputs.new.marks.items _ _
-        (c.in_ok-driven.ensures.items_if_clones_equal (λ y e. e)) c.mark_inputs.ensures c.mark_outputs.ensures in
+    (c.in_ok-driven.ensures.items_if_clones_equal (λ y e. e)) c.mark_inputs.ensures c.mark_outputs.ensures in
     record { size = both.0; marked = both.1 }

@@ -1,6 +1,5 @@
-use Rattle.std.proofs.Common.{◌≡◌, slice_get, Some, refl, arith, false, get_or, length, ◌<◌, ℕ, subst, sym}
+use Rattle.std.proofs.Common.{arith, false, get_or}
 use Rattle.std.proofs.lemmas.Option.{slice_get-get_or}
-use Rattle.net_core.specs.declared.parts.Port.{Port}
 use Rattle.net_core.proofs.MarkLemmas.{ports_more, ports_all}
 use Rattle.net_core.proofs.tables.mark_inputs.Goals as goal
 

@@ -1,4 +1,4 @@
-use Rattle.std.proofs.Common.{◌≡◌, slice_get, get_or, Some, ◌<◌, length, arith}
+use Rattle.std.proofs.Common.{get_or, arith}
 use Rattle.std.proofs.lemmas.Option.{slice_get-get_or}
 use Rattle.net_core.proofs.MarkLemmas.{nets_more, nets_all}
 use Rattle.net_core.proofs.tables.mark_nets.Goals as goal

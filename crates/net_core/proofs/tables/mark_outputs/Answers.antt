@@ -1,4 +1,4 @@
-use Rattle.std.proofs.Common.{◌≡◌, slice_get, Some, None, refl, arith, ap, sym, ◌∙◌, subst, List, Option}
+use Rattle.std.proofs.Common.{slice_get, refl, arith, ap, sym, ◌∙◌, subst, List, Option}
 use Rattle.std.proofs.lemmas.Option.{slice_get_read}
 use Rattle.net_core.specs.declared.parts.NetId.{NetId}
 use Rattle.net_core.specs.Tables.{AddsMarks, IsOn}

@@ -1,4 +1,4 @@
-use Rattle.std.proofs.Common.{◌≡◌, slice_get, Some, None, refl, arith, sym, ℕ, List, subst, ap, ◌∙◌}
+use Rattle.std.proofs.Common.{slice_get, sym, List, subst, ap, ◌∙◌}
 use Rattle.net_core.specs.declared.parts.NetId.{NetId}
 use Rattle.net_core.specs.Tables.{AddsMarks, IsAmongNets}
 use Rattle.net_core.proofs.MarkLemmas.{port_missing, port_group, in_group}

@@ -11,15 +11,15 @@ use Rattle.net_core.proofs.flat.Flat.group_named.Goals.{After-item_at}
 pub returns-in_err-number-clause-missing : goal.returns-in_err-number-clause-missing
 returns-in_err-number-clause-missing c =
     let kept : IsKept c.args.self.now c.self.inside.group_numbers c.self.inside.cell_numbers =
-        subst (λ (net : Netlist). IsKept net c.self.inside.group_numbers c.self.inside.cell_numbers) c.self.view_is c.self.invariant in
+    subst (λ (net : Netlist). IsKept net c.self.inside.group_numbers c.self.inside.cell_numbers) c.self.view_is c.self.invariant in
     let missing : lookup (bytes_eq c.args.name.now) (named_groups c.args.self.now.groups) ≡ None =
-        ap (lookup (bytes_eq c.args.name.now)) (sym kept.groups) ∙ sym c.number_of.ensures ∙ c.in_err-number.was in
+    ap (lookup (bytes_eq c.args.name.now)) (sym kept.groups) ∙ sym c.number_of.ensures ∙ c.in_err-number.was in
     rw c.from_residual.ensures (group_missing c.args.self.now c.args.name.now missing)
 
 found : (c : After-item_at) → lookup (bytes_eq c.args.name.now) (named_groups c.args.self.now.groups) ≡ Some c.in_ok-number.number
 found c =
     let kept : IsKept c.args.self.now c.self.inside.group_numbers c.self.inside.cell_numbers =
-        subst (λ (net : Netlist). IsKept net c.self.inside.group_numbers c.self.inside.cell_numbers) c.self.view_is c.self.invariant in
+    subst (λ (net : Netlist). IsKept net c.self.inside.group_numbers c.self.inside.cell_numbers) c.self.view_is c.self.invariant in
     ap (lookup (bytes_eq c.args.name.now)) (sym kept.groups) ∙ sym c.number_of.ensures ∙ c.in_ok-number.was
 
 item : (c : After-item_at) → option_copied c.item_at.result ≡ slice_get c.args.self.now.groups c.in_ok-number.number

@@ -1,4 +1,4 @@
-use Rattle.std.proofs.Common.{◌≡◌, ap, sym, subst, ◌∙◌, slice_get, IsSome, is_some}
+use Rattle.std.proofs.Common.{ap, subst, ◌∙◌, IsSome, is_some}
 use Rattle.net_core.specs.declared.parts.Group.{Group}
 use Rattle.net_core.proofs.NetNameLemmas.{scalar_found, scalar_there, same_group}
 use Rattle.net_core.proofs.flat.Flat.scalar_named.Goals as goal
