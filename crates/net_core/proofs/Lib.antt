@@ -8,3 +8,5 @@ pub mod SourceLemmas
 pub mod ClockLemmas
 pub mod NumberLemmas
 pub mod PartsLemmas
+pub mod DependLemmas
+pub mod RunLemmas

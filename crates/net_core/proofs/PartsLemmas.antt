@@ -15,7 +15,7 @@ use Rattle.net_core.proofs.ListLemmas.{slice_get_left, slice_get_right, flat_map
 use Rattle.net_core.proofs.NetNameLemmas.{range_number}
 
 -- a test picks elements
-filter_some : {A : Type 0} (test : A → Bool) (xs : List A) (i : ℕ) (x : A) → slice_get (filter test xs) i ≡ Some x → (j : ℕ) × (slice_get xs j ≡ Some x) × (test x ≡ true)
+pub filter_some : {A : Type 0} (test : A → Bool) (xs : List A) (i : ℕ) (x : A) → slice_get (filter test xs) i ≡ Some x → (j : ℕ) × (slice_get xs j ≡ Some x) × (test x ≡ true)
 filter_some test [] i x at = absurd (cc at)
 filter_some {A} test (y ∷ ys) i x at = by (filter_some test ys) (test y) refl i at
   where
@@ -25,7 +25,7 @@ filter_some {A} test (y ∷ ys) i x at = by (filter_some test ys) (test y) refl 
     by rest true t (suc i) at = let own = rest i x at in (suc own.0, own.1, own.2)
     by rest false t i at = let own = rest i x at in (suc own.0, own.1, own.2)
 
-filter_at : {A : Type 0} (test : A → Bool) (xs : List A) (j : ℕ) (x : A) → slice_get xs j ≡ Some x → test x ≡ true → (i : ℕ) × (slice_get (filter test xs) i ≡ Some x)
+pub filter_at : {A : Type 0} (test : A → Bool) (xs : List A) (j : ℕ) (x : A) → slice_get xs j ≡ Some x → test x ≡ true → (i : ℕ) × (slice_get (filter test xs) i ≡ Some x)
 filter_at test [] j x at passes = absurd (cc at)
 filter_at test (y ∷ ys) zero x at passes =
     let kept : test y ≡ true = ap test (same_Some y x at) ∙ passes in
@@ -36,7 +36,7 @@ filter_at {A} test (y ∷ ys) (suc j) x at passes = by (filter_at test ys j x at
     by rest true = (suc rest.0, rest.1)
     by rest false = rest
 
-not_true : (b : Bool) → not b ≡ true → b ≡ false
+pub not_true : (b : Bool) → not b ≡ true → b ≡ false
 not_true true e = sym e
 not_true false e = refl
 
