@@ -1,5 +1,5 @@
 -- Bits by their places: place 0 is the constant 0, place 1 the constant 1, and place n + 2 net n.
-use Rattle.std.specs.Prelude.{ℕ, ◌+◌, ◌<◌, ◌≤◌, Bool, true, false, List, map, slice_index_or, ⊤}
+use Rattle.std.specs.Prelude.{◌≡◌, ℕ, ◌+◌, ◌<◌, ◌≤◌, Bool, true, false, List, map, slice_index_or, ⊤}
 use Rattle.net_core.specs.declared.kind.CellKind.{CellKind}
 use Rattle.net_core.specs.declared.kind.CellKind.TheVariants.{Lut, Carry4, Mem}
 use Rattle.net_core.specs.declared.parts.Pin.{Pin}
@@ -36,3 +36,8 @@ HasPins _ count out = ⊤
 abbrev pub is_memory : CellKind → Bool
 is_memory (Mem aw dw) = true
 is_memory _ = false
+
+-- what the writing of a memory asks of its pins
+abbrev pub HasMemoryPins : CellKind → ℕ → Type 0
+HasMemoryPins (Mem aw dw) count = (count ≡ 1 + aw + dw) × (aw ≤ 17) × (0 < dw)
+HasMemoryPins _ count = ⊤

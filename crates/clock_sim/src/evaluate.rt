@@ -1,5 +1,5 @@
 //! What one cell does: the bit of an output pin, and the next stored bit of a flip-flop.
-ghost use Rattle.std.specs.Prelude.{◌≡◌, ◌≤◌, ◌<◌, ◌==◌, ◌&&◌, ◌||◌, false, length, reverse, if◌then◌else◌};
+ghost use Rattle.std.specs.Prelude.{◌≡◌, ◌≤◌, ◌<◌, ◌^◌, ◌==◌, ◌&&◌, ◌||◌, false, length, reverse, if◌then◌else◌};
 ghost use Rattle.std.specs.Bool.{xor};
 ghost use Rattle.std.specs.Int.{bit_at as bit_at_number};
 ghost use Rattle.net_core.specs.declared.kind.GateCode.TheVariants.{And, Or, Xor};
@@ -104,7 +104,8 @@ fn address(values: &[bool], pins: &[u32]) -> u32
 /// The number that the pins are in binary, the first pin the highest bit.
 pub fn row_number(values: &[bool], pins: &[u32]) -> u32
     requires { length pins.now ≤ 17 }
-    ensures { result ≡ table.binary (read_all values.now pins.now) }
+    ensures number { result ≡ table.binary (read_all values.now pins.now) }
+    ensures small { result < 2 ^ length pins.now }
 {
     let mut value = 0u32;
     for pin in pins {
