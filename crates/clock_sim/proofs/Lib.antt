@@ -1,2 +1,3 @@
 pub mod EvaluateLemmas
 pub mod SettleLemmas
+pub mod AdvanceLemmas

@@ -101,3 +101,25 @@ pub record WritesRow (start last count : ℕ) (ins : List Bool) (old new : List 
   pub size : length new ≡ length old
   pub written : (b : ℕ) → b < count → bit_at_place new (start + b) ≡ pin ins (last - b)
   pub outside : (k : ℕ) → (k < start) ⊎ (start + count ≤ k) → bit_at_place new k ≡ bit_at_place old k
+
+-- what clauses see of a plain simulator: the netlist, the bits at the places, and the stored bits of all cells
+pub record State : Type 0 where
+  pub net : Netlist
+  pub values : List Bool
+  pub stored : List Bool
+
+abbrev pub net_bits : State → ℕ → Bool
+net_bits state = net_bit state.values
+
+abbrev pub net_content : State → ℕ → ℕ → Bool
+net_content state = stored_bit state.net.cells state.stored
+
+-- what a plain simulator keeps: a plan of its netlist, by numbers that rise along dependence
+pub record KeepsPlan (net : Netlist) (inputs pins : List ℕ) (rows : List Row) (slots : List Slot) (values stored : List Bool) : Type 0 where
+  pub rank : ℕ → ℕ
+  pub plan : IsPlan net rank pins rows slots
+  pub input_each : inputs ≡ input_nets net
+  pub within : IsWithin pins rows (length stored)
+  pub slots_within : AreWithin pins rows slots (length values)
+  pub inputs_within : (i n : ℕ) → slice_get inputs i ≡ Some n → n + 2 < length values
+  pub constants : HasConstants values

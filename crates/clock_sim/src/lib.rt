@@ -3,8 +3,8 @@
 
 mod clocking;
 mod evaluate;
+mod plain;
 mod plan;
 
 pub use evaluate::{next_bit, output};
-pub use clocking::settle as settle_nets;
-pub use plan::{Row, Slot};
+pub use plain::Plain;

@@ -1,0 +1,70 @@
+ghost use Rattle.std.specs.Prelude.{◌≡◌, ℕ, List, Bool, [], IfOk};
+ghost use Rattle.net_core.specs.Netlist.{Netlist};
+ghost use Rattle.net_core.specs.Run.{StandsFor};
+ghost use Rattle.clock_sim.specs.Plan.{net_bits, net_content};
+
+use crate::clocking::{advance, place_inputs, settle};
+use crate::plan::{Row, Slot};
+use net_core::{CellId, Flat, Machine, NetId};
+use std::marker::Model;
+
+/// The plain simulator: at each clock it evaluates every output once, in the order of levels. It keeps
+/// the netlist as flat arrays of numbers, and takes all its memory when it is made.
+#[derive(Drop)]
+pub struct Plain<'a> {
+    flat: &'a Flat,
+    inputs: Vec<u32>,
+    pins: Vec<u32>,
+    rows: Vec<Row>,
+    slots: Vec<Slot>,
+    values: Vec<bool>,
+    stored: Vec<bool>,
+}
+
+impl<'a> Model for Plain<'a> {
+    ghost use Rattle.clock_sim.specs.Plan.{State, KeepsPlan};
+
+    ghost Value = { State };
+
+    ghost view = { λ plain. record { net = plain.flat.now; values = plain.values.items; stored = plain.stored.items } };
+
+    ghost invariant = { λ plain. KeepsPlan plain.flat.now plain.inputs.items plain.pins.items plain.rows.items plain.slots.items plain.values.items plain.stored.items };
+}
+
+impl<'a> Machine for Plain<'a> {
+    ghost netlist = { λ plain. plain.net };
+    ghost bit = { λ plain. net_bits plain };
+    ghost content = { λ plain. net_content plain };
+
+    fn step(&mut self, inputs: &[bool]) {
+        place_inputs(&mut self.values, self.inputs.as_slice(), inputs);
+        settle(
+            &mut self.values,
+            self.pins.as_slice(),
+            self.rows.as_slice(),
+            self.slots.as_slice(),
+            self.stored.as_slice(),
+        );
+        advance(
+            &mut self.stored,
+            self.values.as_slice(),
+            self.pins.as_slice(),
+            self.rows.as_slice(),
+        );
+    }
+
+    fn value(&self, net: NetId) -> bool {
+        self.values
+            .get(net.0 as usize + 2)
+            .copied()
+            .unwrap_or(false)
+    }
+
+    fn stored(&self, cell: CellId, index: u32) -> bool {
+        let base = self.rows[cell.0 as usize].base;
+        self.stored
+            .get(base + index as usize)
+            .copied()
+            .unwrap_or(false)
+    }
+}
