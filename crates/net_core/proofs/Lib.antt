@@ -10,3 +10,4 @@ pub mod NumberLemmas
 pub mod PartsLemmas
 pub mod DependLemmas
 pub mod RunLemmas
+pub mod InputLemmas
