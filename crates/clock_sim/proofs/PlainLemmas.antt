@@ -81,3 +81,12 @@ module _ (net : Netlist) (inputs pins : List ℕ) (rows : List Row) (slots : Lis
 
     pub stands_after : (history : List (List Bool)) → StandsFor net (net_bit old) (stored_bit net.cells stored) history → StandsFor net (net_bit settled) (stored_bit net.cells after) (history ++ row ∷ [])
     stands_after history stands = stands_next net keeps.plan.flat keeps.rank keeps.plan.ranked (net_bit old) (stored_bit net.cells stored) history row (net_bit settled) (stored_bit net.cells after) stands is_settled is_next
+
+-- the stored bit of a cell is within the bits of all
+pub stored_within : (net : Netlist) (inputs pins : List ℕ) (rows : List Row) (slots : List Slot) (values stored : List Bool) → KeepsPlan net inputs pins rows slots values stored
+    → (c index : ℕ) (cell : Cell) (row : Row) → slice_get net.cells c ≡ Some cell → slice_get rows c ≡ Some row → index < content_size cell.kind
+    → (row.base + index < length stored) × (row.base ≡ base_of net.cells c)
+stored_within net inputs pins rows slots values stored keeps c index cell row at there low =
+    let own = keeps.plan.row_each c cell row at there in
+    let size : content_size row.kind ≡ content_size cell.kind = ap content_size own.kind in
+    (omega (arith, keeps.within.bases c row there, size, low), own.base)

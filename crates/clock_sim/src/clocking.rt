@@ -5,7 +5,7 @@ ghost use Rattle.net_core.specs.declared.kind.CellKind.TheVariants.{Mem};
 ghost use Rattle.net_core.specs.Netlist.{Netlist};
 ghost use Rattle.clock_sim.specs.Plan.{IsPlan, IsWithin, AreWithin, HasRowFor, IsSettledTo, HasConstants, IsPlaced, HasRows, AdvancesRow, WritesRow, IsAdvancedTo};
 
-use crate::evaluate::{next_bit, output, read, row_number};
+use crate::evaluate::{bit_number, next_bit, output, read, row_number};
 use crate::plan::{Row, Slot};
 use net_core::CellKind;
 
@@ -32,7 +32,7 @@ fn slot_bit(values: &[bool], pins: &[u32], rows: &[Row], slot: &Slot, stored: &[
 {
     let row = rows[slot.cell as usize];
     let own = &pins[row.first as usize..row.last as usize];
-    let kept = stored.get(row.base).copied().unwrap_or(false);
+    let kept = bit_number(stored, row.base);
     output(row.kind, values, own, kept, slot.out as usize)
 }
 

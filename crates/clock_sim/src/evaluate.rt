@@ -15,6 +15,13 @@ pub fn bit_at(values: &[bool], place: u32) -> bool
     values.get(place as usize).copied().unwrap_or(false)
 }
 
+/// The bit with a number.
+pub fn bit_number(bits: &[bool], number: usize) -> bool
+    ensures { result ≡ bit_at_place bits.now number }
+{
+    bits.get(number).copied().unwrap_or(false)
+}
+
 /// The bit of input pin `pin`, or 0 where there is no such pin.
 pub fn read(values: &[bool], pins: &[u32], pin: usize) -> bool
     ensures { result ≡ table.pin (read_all values.now pins.now) pin }

@@ -3,6 +3,7 @@ ghost use Rattle.net_core.specs.Netlist.{Netlist};
 ghost use Rattle.net_core.specs.Run.{StandsFor};
 ghost use Rattle.clock_sim.specs.Plan.{net_bits, net_content};
 
+use crate::evaluate::bit_number;
 use crate::clocking::{advance, place_inputs, settle};
 use crate::plan::{Row, Slot};
 use net_core::{CellId, Flat, Machine, NetId};
@@ -54,17 +55,11 @@ impl<'a> Machine for Plain<'a> {
     }
 
     fn value(&self, net: NetId) -> bool {
-        self.values
-            .get(net.0 as usize + 2)
-            .copied()
-            .unwrap_or(false)
+        bit_number(self.values.as_slice(), net.0 as usize + 2)
     }
 
     fn stored(&self, cell: CellId, index: u32) -> bool {
         let base = self.rows[cell.0 as usize].base;
-        self.stored
-            .get(base + index as usize)
-            .copied()
-            .unwrap_or(false)
+        bit_number(self.stored.as_slice(), base + index as usize)
     }
 }
