@@ -123,3 +123,11 @@ pub record KeepsPlan (net : Netlist) (inputs pins : List ℕ) (rows : List Row) 
   pub slots_within : AreWithin pins rows slots (length values)
   pub inputs_within : (i n : ℕ) → slice_get inputs i ≡ Some n → n + 2 < length values
   pub constants : HasConstants values
+
+-- the rows of the first cells, with the places of their pins and the number of the stored bit behind their last
+pub record AreRowsTo (cells : List Cell) (i : ℕ) (places : List ℕ) (rows : List Row) (next : ℕ) : Type 0 where
+  pub size : length rows ≡ i
+  pub place_count : length places ≡ sum_by (λ (cell : Cell). length cell.ins) (take i cells)
+  pub next_base : next ≡ base_of cells i
+  pub each : (c : ℕ) (cell : Cell) (row : Row) → slice_get cells c ≡ Some cell → slice_get rows c ≡ Some row
+      → (row.kind ≡ cell.kind) × (slice_range places row.first row.last ≡ places_of cell.ins) × (row.base ≡ base_of cells c) × (row.first ≤ row.last) × (row.last ≤ length places)
