@@ -2,3 +2,4 @@ pub mod EvaluateLemmas
 pub mod SettleLemmas
 pub mod AdvanceLemmas
 pub mod PlainLemmas
+pub mod BuildLemmas

@@ -1,9 +1,10 @@
 -- The plan of a netlist, and what settling and advancing by it do.
-use Rattle.std.specs.Prelude.{◌≡◌, ◌≢◌, ℕ, ◌+◌, ◌-◌, ◌<◌, ◌≤◌, Bool, true, false, List, length, take, sum_by, slice_get, slice_range, slice_index_or, Some, ◌⊎◌}
+use Rattle.std.specs.Prelude.{◌≡◌, ◌≢◌, ℕ, ◌+◌, ◌-◌, ◌<◌, ◌≤◌, Bool, true, false, List, [], ◌∷◌, ◌++◌, if◌then◌else◌, slice_index, Option, None, length, take, sum_by, slice_get, slice_range, slice_index_or, Some, ◌⊎◌}
 use Rattle.net_core.specs.declared.kind.CellKind.{CellKind}
+use Rattle.net_core.specs.declared.parts.NetId.{NetId}
 use Rattle.net_core.specs.declared.parts.Cell.{Cell}
 use Rattle.net_core.specs.CellTable.{output, pin, content_size, next_content, initial}
-use Rattle.net_core.specs.Netlist.{Netlist, Drives, IsIn, IsData, input_nets}
+use Rattle.net_core.specs.Netlist.{Netlist, Drives, IsIn, IsData, is_clock, input_nets}
 use Rattle.net_core.specs.WellFormed.{IsFlat}
 use Rattle.net_core.specs.Run.{input_pins}
 use Rattle.net_core.specs.Cycle.{IsRanked}
@@ -131,3 +132,16 @@ pub record AreRowsTo (cells : List Cell) (i : ℕ) (places : List ℕ) (rows : L
   pub next_base : next ≡ base_of cells i
   pub each : (c : ℕ) (cell : Cell) (row : Row) → slice_get cells c ≡ Some cell → slice_get rows c ≡ Some row
       → (row.kind ≡ cell.kind) × (slice_range places row.first row.last ≡ places_of cell.ins) × (row.base ≡ base_of cells c) × (row.first ≤ row.last) × (row.last ≤ length places)
+
+-- the slots of a cell's data outputs, from the output k on
+abbrev pub cell_slots : Netlist → List ℕ → ℕ → ℕ → List (Option NetId) → List Slot
+cell_slots net numbers c k [] = []
+cell_slots net numbers c k (None ∷ outs) = cell_slots net numbers c (k + 1) outs
+cell_slots net numbers c k (Some own ∷ outs) =
+    if is_clock net own.0 then cell_slots net numbers c (k + 1) outs
+    else record { level = slice_index numbers own.0; cell = c; out = k; net = own.0 } ∷ cell_slots net numbers c (k + 1) outs
+
+-- the slots of all cells, from cell c on
+abbrev pub all_slots : Netlist → List ℕ → ℕ → List Cell → List Slot
+all_slots net numbers c [] = []
+all_slots net numbers c (cell ∷ cells) = cell_slots net numbers c 0 cell.outs ++ all_slots net numbers (c + 1) cells

@@ -8,7 +8,7 @@ ghost use Rattle.net_core.specs.Run.{IsStart};
 ghost use Rattle.net_core.specs.Cycle.{IsRanked};
 ghost use Rattle.net_core.specs.declared.parts.Cell.{Cell as CellOf};
 ghost use Rattle.clock_sim.specs.Reading.{place_of, places_of};
-ghost use Rattle.clock_sim.specs.Plan.{base_of, stored_bit, AreRowsTo, IsPlan, HasConstants};
+ghost use Rattle.clock_sim.specs.Plan.{base_of, stored_bit, AreRowsTo, AreSlots, IsPlan, HasConstants, cell_slots, all_slots};
 
 use crate::plan::{Row, Slot};
 use ila_base::NoMemory;
@@ -18,8 +18,7 @@ use std::alloc::Global;
 // How many bits a cell stores.
 fn content_size(kind: CellKind) -> usize
     requires { kinds.IsAllowed kind }
-    ensures size { result ≡ kinds.content_size kind }
-    ensures small { result ≤ 2 ^ 27 }
+    ensures { result ≡ kinds.content_size kind }
 {
     match kind {
         CellKind::Fdre(_) | CellKind::Fdse(_) | CellKind::Fdce(_) | CellKind::Fdpe(_) => 1,
@@ -75,4 +74,45 @@ pub fn push_rows(places: &mut Vec<u32>, rows: &mut Vec<Row>, cells: &[Cell]) -> 
         base += content_size(cell.kind);
     }
     Ok(base)
+}
+
+// Adds a slot for each data output of a cell.
+fn push_cell_slots(
+    slots: &mut Vec<Slot>,
+    flat: &Flat,
+    numbers: &[u32],
+    outs: &[Option<NetId>],
+    cell: u32,
+) -> Result<(), NoMemory>
+    requires numbers { length numbers.now ≡ net_count flat.now.groups }
+    requires nets { (k n : ℕ) → slice_get outs.now k ≡ Some (Some (record { 0 = n })) → n < net_count flat.now.groups }
+    requires few { length outs.now < 2 ^ 32 }
+    ensures { OnOk result (slots.new.items ≡ slots.old.items ++ cell_slots flat.now numbers.now cell 0 outs.now) }
+{
+    for (out, net) in outs.iter().enumerate() {
+        match net {
+            Some(net) if !flat.is_clock(*net) => slots.push(Slot {
+                level: numbers[net.0 as usize],
+                cell,
+                out: out as u32,
+                net: net.0,
+            })?,
+            _ => {}
+        }
+    }
+    Ok(())
+}
+
+/// The slots of the data outputs, in the order of levels.
+pub fn ordered_slots(alloc: Global, flat: &Flat, numbers: &[u32]) -> Result<Vec<Slot>, NoMemory>
+    requires numbers { length numbers.now ≡ net_count flat.now.groups }
+    requires ranked { IsRanked flat.now (slice_index numbers.now) }
+    ensures { IfOk result (λ slots. AreSlots flat.now (slice_index numbers.now) slots.items) }
+{
+    let mut slots = Vec::new(alloc);
+    for (number, cell) in flat.cells().iter().enumerate() {
+        push_cell_slots(&mut slots, flat, numbers, cell.outs.as_slice(), number as u32)?;
+    }
+    slots.sort()?;
+    Ok(slots)
 }
