@@ -3,3 +3,4 @@ pub mod SettleLemmas
 pub mod AdvanceLemmas
 pub mod PlainLemmas
 pub mod BuildLemmas
+pub mod SlotLemmas

@@ -1,6 +1,8 @@
 //! The plan of a netlist is made: its rows of cells, its slots in the order of levels, and the bits at
 //! clock 0.
 ghost use Rattle.std.specs.Prelude.{◌≡◌, ℕ, ◌<◌, ◌≤◌, ◌^◌, ◌+◌, List, [], ◌∷◌, ◌++◌, Some, IfOk, IfSome, OnOk, length, sum_by, slice_get, slice_index};
+ghost use Rattle.std.specs.List.Sorted.{IsPermutation, IsNonDecreasingBy};
+ghost use Rattle.clock_sim.specs.declared.plan.Slot.{Slot as SlotOf};
 ghost use Rattle.net_core.specs.CellTable as kinds;
 ghost use Rattle.net_core.specs.Netlist.{Netlist, input_nets, net_count};
 ghost use Rattle.net_core.specs.WellFormed.{IsFlat};
@@ -113,6 +115,15 @@ pub fn ordered_slots(alloc: Global, flat: &Flat, numbers: &[u32]) -> Result<Vec<
     for (number, cell) in flat.cells().iter().enumerate() {
         push_cell_slots(&mut slots, flat, numbers, cell.outs.as_slice(), number as u32)?;
     }
-    slots.sort()?;
+    sort_by_level(&mut slots)?;
     Ok(slots)
+}
+
+// Puts the slots in the order of levels.
+fn sort_by_level(slots: &mut Vec<Slot>) -> Result<(), NoMemory>
+    ensures permutation { OnOk result (IsPermutation slots.old.items slots.new.items) }
+    ensures sorted { OnOk result (IsNonDecreasingBy (λ (slot : SlotOf). slot.level) slots.new.items) }
+{
+    slots.sort_by_key(|slot| slot.level)?;
+    Ok(())
 }

@@ -14,7 +14,7 @@ pub struct Row {
 }
 
 /// An output pin on a data net: the level of the net, the cell, the pin and the net.
-#[derive(Clone, Copy, Debug, PartialEq, Eq, PartialOrd, Ord)]
+#[derive(Clone, Copy, Debug)]
 pub struct Slot {
     pub level: u32,
     pub cell: u32,
