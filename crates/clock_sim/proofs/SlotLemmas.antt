@@ -180,7 +180,9 @@ at_contains : {A : Type 0} (xs : List A) (k : ℕ) (x : A) → slice_get xs k �
 at_contains xs k x at = (k, slice_get_within xs k x at, get_or_from_slice_get xs k x x at)
 
 levels_rise : (slots : List Slot) → IsNonDecreasingBy (λ (slot : Slot). slot.level) slots → (j i : ℕ) (a b : Slot) → slice_get slots j ≡ Some a → slice_get slots i ≡ Some b → j ≤ i → a.level ≤ b.level
-levels_rise slots sorted j i a b at there order = ?
+levels_rise slots sorted j i a b at there order =
+    let level : Slot → ℕ = λ (slot : Slot). slot.level in
+    omega (arith, sorted j i a order (slice_get_within slots i b there), ap level (get_or_from_slice_get slots j a a at), ap level (get_or_from_slice_get slots i b a there))
 
 pub slots_ordered : (net : Netlist) (numbers : List ℕ) (made slots : List Slot) → IsFlat net → made ≡ all_slots net numbers 0 net.cells → IsPermutation made slots → IsNonDecreasingBy (λ (slot : Slot). slot.level) slots
     → AreSlots net (slice_index numbers) slots
