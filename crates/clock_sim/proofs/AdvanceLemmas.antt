@@ -1,5 +1,5 @@
 -- One cell more has the stored bits of the next clock.
-use Rattle.std.proofs.Common.{◌≡◌, ◌≢◌, ℕ, zero, suc, ◌+◌, ◌-◌, ◌*◌, ◌/◌, ◌%◌, ◌^◌, ◌<◌, ◌≤◌, Bool, true, false, ◌&&◌, List, [], ◌∷◌, ◌++◌, map, length, get_or, take, drop, slice_get, slice_range, sum_by, Some, refl, ap, sym, ◌∙◌, subst, arith, inl, inr, ◌⊎◌, if◌then◌else◌, ◌==◌}
+use Rattle.std.proofs.Common.{◌≡◌, ℕ, zero, suc, ◌+◌, ◌-◌, ◌*◌, ◌/◌, ◌%◌, ◌^◌, ◌<◌, ◌≤◌, Bool, true, false, ◌&&◌, List, [], ◌∷◌, length, get_or, take, drop, slice_get, slice_range, Some, refl, ap, sym, ◌∙◌, arith, inl, inr, ◌⊎◌, if◌then◌else◌, ◌==◌}
 use Rattle.std.proofs.lemmas.Bool.{cases_eq, cases_lt, false_from_ne_true}
 use Rattle.std.proofs.lemmas.Bool.Decides.{Decides-eqb}
 use Rattle.std.proofs.lemmas.List.Sums.{sum_by-cons}
@@ -57,33 +57,37 @@ advanced_none net values old = record { size = refl; next = λ c cell k low at s
 pub advanced_more : (net : Netlist) (values : List Bool) (places : List ℕ) (rows : List Row) → HasRows net values places rows → (i : ℕ) (row : Row) (old now new : List Bool) → slice_get rows i ≡ Some row
     → i < length rows → AdvancesRow row.kind row.base (read_all values (slice_range places row.first row.last)) now new → IsAdvancedTo net values i old now → IsAdvancedTo net values (i + 1) old new
 advanced_more net values places rows has i row old now new at low step so_far = record {
-    size = step.size ∙ so_far.size;
-    next = next;
-    later = λ k high. step.outside k (inr (omega (arith, own.base, kind, base_more net.cells i cell.0 cell.1, high)))
-        ∙ so_far.later k (omega (arith, base_more net.cells i cell.0 cell.1, high));
-  }
+  size = step.size ∙ so_far.size;
+  next = next;
+  later = λ k high. step.outside k (inr (omega (arith, own.base, kind, base_more net.cells i cell.0 cell.1, high)))
+      ∙ so_far.later k (omega (arith, base_more net.cells i cell.0 cell.1, high));
+}
   where
     cell : (cell : Cell) × (slice_get net.cells i ≡ Some cell)
     cell = there_is net.cells i (omega (arith, low, has.size))
+
     own : IsRow net places i cell.0 row
     own = has.row_each i cell.0 row cell.1 at
+
     kind : content_size row.kind ≡ content_size cell.0.kind
     kind = ap content_size own.kind
+
     next : (c : ℕ) (o : Cell) (k : ℕ) → c < i + 1 → slice_get net.cells c ≡ Some o → k < content_size o.kind
         → stored_bit net.cells new c k ≡ next_content o.kind (input_pins (net_bit values) o) (stored_bit net.cells old c) k
-    next c o k below there stores = elim (cases_eq c i)
-      [ inl same ↦ (
-        let is : o ≡ cell.0 = same_Some _ _ (sym there ∙ ap (slice_get net.cells) same ∙ cell.1) in
-        let size : content_size o.kind ≡ content_size row.kind = ap (λ (p : Cell). content_size p.kind) is ∙ sym kind in
-        let place : base_of net.cells c + k ≡ row.base + k = ap (λ j. base_of net.cells j + k) same ∙ ap (λ j. j + k) (sym own.base) in
-        ap (bit_at_place new) place ∙ step.inside k (omega (arith, stores, size))
-        ∙ ap (λ (kind : CellKind). next_content kind (read_all values (slice_range places row.first row.last)) (λ j. bit_at_place now (row.base + j)) k) (own.kind ∙ ap (λ (p : Cell). p.kind) (sym is))
-        ∙ next_same o.kind (read_all values (slice_range places row.first row.last)) (input_pins (net_bit values) o) (λ j. bit_at_place now (row.base + j)) (stored_bit net.cells old c) k
+    next c o k below there stores = elim (cases_eq c i) [
+      | inl same ↦ (
+          let is : o ≡ cell.0 = same_Some _ _ (sym there ∙ ap (slice_get net.cells) same ∙ cell.1) in
+          let size : content_size o.kind ≡ content_size row.kind = ap (λ (p : Cell). content_size p.kind) is ∙ sym kind in
+          let place : base_of net.cells c + k ≡ row.base + k = ap (λ j. base_of net.cells j + k) same ∙ ap (λ j. j + k) (sym own.base) in
+          ap (bit_at_place new) place ∙ step.inside k (omega (arith, stores, size))
+          ∙ ap (λ (kind : CellKind). next_content kind (read_all values (slice_range places row.first row.last)) (λ j. bit_at_place now (row.base + j)) k) (own.kind ∙ ap (λ (p : Cell). p.kind) (sym is))
+          ∙ next_same o.kind (read_all values (slice_range places row.first row.last)) (input_pins (net_bit values) o) (λ j. bit_at_place now (row.base + j)) (stored_bit net.cells old c) k
           (ap (read_all values) own.places ∙ read_pins values cell.0.ins has.constants.zero_place has.constants.one_place ∙ ap (λ (p : Cell). input_pins (net_bit values) p) (sym is))
           (so_far.later (row.base + k) (omega (arith, own.base)) ∙ ap (bit_at_place old) (sym place)))
       | inr other ↦ (
-        let early : c < i = omega (arith, below, other) in
-        step.outside (base_of net.cells c + k) (inl (omega (arith, own.base, base_apart net.cells c i o there early, stores))) ∙ so_far.next c o k early there stores) ]
+          let early : c < i = omega (arith, below, other) in
+          step.outside (base_of net.cells c + k) (inl (omega (arith, own.base, base_apart net.cells c i o there early, stores))) ∙ so_far.next c o k early there stores)
+    ]
 
 -- A memory
 
@@ -107,21 +111,24 @@ memory_advanced aw dw base row start ins old new wide enabled is low begins wrot
     outside k (inr behind) =
         let product : dw * (row + 1) ≤ dw * 2 ^ aw = mul-le-mul_left dw (omega (arith, low)) in
         wrote.outside k (inr (omega (arith, begins, behind, product)))
+
     inside : (i : ℕ) → i < 2 ^ aw * dw → get_or new (base + i) false ≡ (if pin ins 0 && (i / dw == binary (take aw (drop 1 ins))) then pin ins (aw + dw - i % dw) else get_or old (base + i) false)
-    inside i within = elim (cases_eq (i / dw) row)
-      [ inl same ↦ (
-        let test : (pin ins 0 && (i / dw == binary (take aw (drop 1 ins)))) ≡ true =
-            ap (λ b. b && (i / dw == binary (take aw (drop 1 ins)))) enabled ∙ (Decides-eqb (i / dw) (binary (take aw (drop 1 ins)))).1 (same ∙ is) in
-        let product : dw * (i / dw) ≡ dw * row = ap (λ q. dw * q) same in
-        let place : base + i ≡ start + i % dw = omega (arith, begins, product, wide) in
-        let small : i % dw < dw = omega (arith, wide) in
-        ap (λ k. get_or new k false) place ∙ wrote.written (i % dw) small
-        ∙ sym (ap (λ b. if b then pin ins (aw + dw - i % dw) else get_or old (base + i) false) test))
+    inside i within = elim (cases_eq (i / dw) row) [
+      | inl same ↦ (
+          let test : (pin ins 0 && (i / dw == binary (take aw (drop 1 ins)))) ≡ true =
+          ap (λ b. b && (i / dw == binary (take aw (drop 1 ins)))) enabled ∙ (Decides-eqb (i / dw) (binary (take aw (drop 1 ins)))).1 (same ∙ is) in
+          let product : dw * (i / dw) ≡ dw * row = ap (λ q. dw * q) same in
+          let place : base + i ≡ start + i % dw = omega (arith, begins, product, wide) in
+          let small : i % dw < dw = omega (arith, wide) in
+          ap (λ k. get_or new k false) place ∙ wrote.written (i % dw) small
+          ∙ sym (ap (λ b. if b then pin ins (aw + dw - i % dw) else get_or old (base + i) false) test))
       | inr other ↦ (
-        let test : (pin ins 0 && (i / dw == binary (take aw (drop 1 ins)))) ≡ false =
-            ap (λ b. b && (i / dw == binary (take aw (drop 1 ins)))) enabled ∙ false_from_ne_true (i / dw == binary (take aw (drop 1 ins))) (λ t. other ((Decides-eqb (i / dw) (binary (take aw (drop 1 ins)))).0 t ∙ sym is)) in
-        let small : i % dw < dw = omega (arith, wide) in
-        wrote.outside (base + i) (elim (cases_lt (i / dw) row)
-          [ inl before ↦ (let e = row_before dw (i / dw) row (i % dw) small before in inl (omega (arith, begins, e, wide)))
-          | inr behind ↦ (let e = row_behind dw (i / dw) row (i % dw) (omega (arith, behind, other)) in inr (omega (arith, begins, e, wide))) ])
-        ∙ sym (ap (λ b. if b then pin ins (aw + dw - i % dw) else get_or old (base + i) false) test)) ]
+          let test : (pin ins 0 && (i / dw == binary (take aw (drop 1 ins)))) ≡ false =
+          ap (λ b. b && (i / dw == binary (take aw (drop 1 ins)))) enabled ∙ false_from_ne_true (i / dw == binary (take aw (drop 1 ins))) (λ t. other ((Decides-eqb (i / dw) (binary (take aw (drop 1 ins)))).0 t ∙ sym is)) in
+          let small : i % dw < dw = omega (arith, wide) in
+          wrote.outside (base + i) (elim (cases_lt (i / dw) row) [
+            | inl before ↦ (let e = row_before dw (i / dw) row (i % dw) small before in inl (omega (arith, begins, e, wide)))
+            | inr behind ↦ (let e = row_behind dw (i / dw) row (i % dw) (omega (arith, behind, other)) in inr (omega (arith, begins, e, wide)))
+          ])
+          ∙ sym (ap (λ b. if b then pin ins (aw + dw - i % dw) else get_or old (base + i) false) test))
+    ]

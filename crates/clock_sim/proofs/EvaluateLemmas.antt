@@ -1,7 +1,6 @@
 -- Gates and numbers, as they are read pin by pin.
-use Rattle.std.proofs.Common.{◌≡◌, ℕ, zero, suc, ◌+◌, ◌-◌, ◌*◌, ◌^◌, ◌<◌, ◌≤◌, Bool, true, false, not, ◌&&◌, ◌||◌, List, [], ◌∷◌, ◌++◌, map, take, drop, length, reverse, fold, get_or, pow_mono, slice_get, Some, refl, ap, sym, ◌∙◌, arith, if◌then◌else◌, pow-suc}
+use Rattle.std.proofs.Common.{◌≡◌, ℕ, zero, suc, ◌+◌, ◌*◌, ◌^◌, ◌<◌, ◌≤◌, Bool, true, false, not, ◌&&◌, ◌||◌, List, [], ◌∷◌, ◌++◌, map, take, drop, length, reverse, fold, get_or, pow_mono, slice_get, Some, refl, ap, sym, ◌∙◌, arith, if◌then◌else◌, pow-suc}
 use Rattle.std.specs.List.{list_all, list_any}
-use Rattle.std.proofs.lemmas.List.{length-map, length-take, length-reverse, length-append, get_or-map}
 use Rattle.std.specs.Bool.{xor, beq}
 use Rattle.std.proofs.lemmas.Grind.{reverse_onto}
 use mir.Val.{bool_byte}

@@ -1,14 +1,13 @@
 -- The slots are the data outputs, each once.
-use Rattle.std.proofs.Common.{◌≡◌, ◌≢◌, ℕ, zero, suc, ◌+◌, ◌-◌, ◌<◌, ◌≤◌, Bool, true, false, List, [], ◌∷◌, ◌++◌, length, get_or, sum_by, slice_get, slice_index, Option, Some, None, refl, ap, sym, ◌∙◌, subst, arith, inl, inr, ◌⊎◌, if◌then◌else◌, ◌==◌, Contains}
+use Rattle.std.proofs.Common.{◌≡◌, ℕ, zero, suc, ◌+◌, ◌≤◌, Bool, true, false, List, [], ◌∷◌, length, sum_by, slice_get, slice_index, Option, Some, None, refl, ap, sym, ◌∙◌, subst, arith, inl, inr, ◌⊎◌, if◌then◌else◌, ◌==◌, Contains}
 use Rattle.std.specs.List.Sorted.{IsPermutation, IsNonDecreasingBy}
-use Rattle.std.proofs.lemmas.Bool.{cases_eq, cases_lt}
-use Rattle.std.proofs.lemmas.Bool.Decides.{Decides-eqb, nat_tests}
+use Rattle.std.proofs.lemmas.Bool.Decides.{Decides-eqb}
 use Rattle.std.proofs.lemmas.List.Sums.{sum_by-cons, sum_by-append}
-use Rattle.std.proofs.lemmas.List.Sorted.{IsPermutation-sym, Contains-permutation, sum_by-IsPermutation, length_permutation}
+use Rattle.std.proofs.lemmas.List.Sorted.{IsPermutation-sym, Contains-permutation, sum_by-IsPermutation}
 use Rattle.std.proofs.lemmas.Option.{same_Some, slice_get_within, slice_get-get_or, get_or_from_slice_get}
 use Rattle.net_core.specs.declared.parts.NetId.{NetId}
 use Rattle.net_core.specs.declared.parts.Cell.{Cell}
-use Rattle.net_core.specs.Netlist.{Netlist, Drives, IsData, is_clock, is_driven}
+use Rattle.net_core.specs.Netlist.{Netlist, is_clock}
 use Rattle.net_core.specs.WellFormed.{IsFlat}
 use Rattle.net_core.proofs.ListLemmas.{slice_get_append, slice_get_left, slice_get_right}
 use Rattle.clock_sim.specs.declared.plan.Slot.{Slot}
@@ -62,17 +61,21 @@ module _ (net : Netlist) (numbers : List ℕ) where
   cell_sound c k (Some own ∷ outs) j slot at = by (λ j at. cell_sound c (k + 1) outs j slot at) (is_clock net own.0) refl j at
     where
       by : ((j : ℕ) → slice_get (cell_slots net numbers c (k + 1) outs) j ≡ Some slot
-            → (i : ℕ) × (slot.cell ≡ c) × (slot.out ≡ k + 1 + i) × (slice_get outs i ≡ Some (Some (record { 0 = slot.net }))) × (is_clock net slot.net ≡ false) × (slot.level ≡ slice_index numbers slot.net))
+          → (i : ℕ) × (slot.cell ≡ c) × (slot.out ≡ k + 1 + i) × (slice_get outs i ≡ Some (Some (record { 0 = slot.net }))) × (is_clock net slot.net ≡ false) × (slot.level ≡ slice_index numbers slot.net))
           → (b : Bool) → is_clock net own.0 ≡ b → (j : ℕ)
           → slice_get (if b then cell_slots net numbers c (k + 1) outs else record { level = slice_index numbers own.0; cell = c; out = k; net = own.0 } ∷ cell_slots net numbers c (k + 1) outs) j ≡ Some slot
           → (i : ℕ) × (slot.cell ≡ c) × (slot.out ≡ k + i) × (slice_get (Some own ∷ outs) i ≡ Some (Some (record { 0 = slot.net }))) × (is_clock net slot.net ≡ false) × (slot.level ≡ slice_index numbers slot.net)
       by later true clock j at = let rest = later j at in (suc rest.0, rest.1, omega (arith, rest.2), rest.3, rest.4, rest.5)
       by later false clock (suc j) at = let rest = later j at in (suc rest.0, rest.1, omega (arith, rest.2), rest.3, rest.4, rest.5)
       by later false clock zero at =
-          let is = same_Some _ slot at in
-          (0, sym (ap (λ (s : Slot). s.cell) is), (let e : k ≡ slot.out = ap (λ (s : Slot). s.out) is in omega (arith, e)),
-           ap (λ (s : Slot). Some (Some (record { 0 = s.net }))) is, sym (ap (λ (s : Slot). is_clock net s.net) is) ∙ clock,
-           sym (ap (λ (s : Slot). s.level) is) ∙ ap (λ (s : Slot). slice_index numbers s.net) is)
+          let is = same_Some _ slot at in (
+            0,
+            sym (ap (λ (s : Slot). s.cell) is),
+            (let e : k ≡ slot.out = ap (λ (s : Slot). s.out) is in omega (arith, e)),
+            ap (λ (s : Slot). Some (Some (record { 0 = s.net }))) is,
+            sym (ap (λ (s : Slot). is_clock net s.net) is) ∙ clock,
+            sym (ap (λ (s : Slot). s.level) is) ∙ ap (λ (s : Slot). slice_index numbers s.net) is,
+          )
 
   cell_complete : (c k : ℕ) (outs : List (Option NetId)) (i n : ℕ) → slice_get outs i ≡ Some (Some (record { 0 = n })) → is_clock net n ≡ false
       → (j : ℕ) × (slice_get (cell_slots net numbers c k outs) j ≡ Some (record { level = slice_index numbers n; cell = c; out = k + i; net = n }))
@@ -85,10 +88,12 @@ module _ (net : Netlist) (numbers : List ℕ) where
   cell_complete c k (Some own ∷ outs) zero n at data_net =
       let is : own ≡ record { 0 = n } = same_Some _ _ (same_Some _ _ at) in
       let test : is_clock net own.0 ≡ false = ap (λ (o : NetId). is_clock net o.0) is ∙ data_net in
-      let place : k ≡ k + 0 = omega arith in
-      (0, ap (λ (b : Bool). slice_get (if b then cell_slots net numbers c (k + 1) outs else record { level = slice_index numbers own.0; cell = c; out = k; net = own.0 } ∷ cell_slots net numbers c (k + 1) outs) 0) test
-          ∙ ap (λ (o : NetId). Some (record { level = slice_index numbers o.0; cell = c; out = k; net = o.0 })) is
-          ∙ ap (λ (o : ℕ). Some (record { level = slice_index numbers n; cell = c; out = o; net = n })) place)
+      let place : k ≡ k + 0 = omega arith in (
+        0,
+        ap (λ (b : Bool). slice_get (if b then cell_slots net numbers c (k + 1) outs else record { level = slice_index numbers own.0; cell = c; out = k; net = own.0 } ∷ cell_slots net numbers c (k + 1) outs) 0) test
+            ∙ ap (λ (o : NetId). Some (record { level = slice_index numbers o.0; cell = c; out = k; net = o.0 })) is
+            ∙ ap (λ (o : ℕ). Some (record { level = slice_index numbers n; cell = c; out = o; net = n })) place,
+      )
   cell_complete c k (Some own ∷ outs) (suc i) n at data_net =
       let rest = cell_complete c (k + 1) outs i n at data_net in
       let place : k + 1 + i ≡ k + suc i = omega arith in
@@ -102,23 +107,25 @@ module _ (net : Netlist) (numbers : List ℕ) where
   -- a net of no slot has no hits, else a slot is on it
   any_slot : (n : ℕ) (slots : List Slot) → ((i : ℕ) × (slot : Slot) × (slice_get slots i ≡ Some slot) × (slot.net ≡ n)) ⊎ (hits n slots ≡ 0)
   any_slot n [] = inr refl
-  any_slot n (slot ∷ slots) = elim (hit_or_not n slot)
-    [ inl is ↦ inl (0, slot, refl, is)
-    | inr not_it ↦ (elim (any_slot n slots) [ inl own ↦ inl (suc own.0, own.1, own.2, own.3) | inr none ↦ inr (omega (arith, not_it, none, sum_by-cons (hit n) slot slots)) ]) ]
+  any_slot n (slot ∷ slots) = elim (hit_or_not n slot) [
+    | inl is ↦ inl (0, slot, refl, is)
+    | inr not_it ↦ (elim (any_slot n slots) [ inl own ↦ inl (suc own.0, own.1, own.2, own.3) | inr none ↦ inr (omega (arith, not_it, none, sum_by-cons (hit n) slot slots)) ])
+  ]
 
   -- The slots of all cells
 
   all_sound : (c : ℕ) (cells : List Cell) (j : ℕ) (slot : Slot) → slice_get (all_slots net numbers c cells) j ≡ Some slot
       → (d : ℕ) × (cell : Cell) × (slot.cell ≡ c + d) × (slice_get cells d ≡ Some cell) × (slice_get cell.outs slot.out ≡ Some (Some (record { 0 = slot.net }))) × (is_clock net slot.net ≡ false) × (slot.level ≡ slice_index numbers slot.net)
   all_sound c [] j slot at = absurd (cc at)
-  all_sound c (cell ∷ cells) j slot at = elim (slice_get_append (cell_slots net numbers c 0 cell.outs) (all_slots net numbers (c + 1) cells) j slot at)
-    [ inl here ↦ (
-      let own = cell_sound c 0 cell.outs j slot here in
-      let place : slot.out ≡ own.0 = omega (arith, own.2) in
-      (0, cell, omega (arith, own.1), refl, ap (slice_get cell.outs) place ∙ own.3, own.4, own.5))
+  all_sound c (cell ∷ cells) j slot at = elim (slice_get_append (cell_slots net numbers c 0 cell.outs) (all_slots net numbers (c + 1) cells) j slot at) [
+    | inl here ↦ (
+        let own = cell_sound c 0 cell.outs j slot here in
+        let place : slot.out ≡ own.0 = omega (arith, own.2) in
+        (0, cell, omega (arith, own.1), refl, ap (slice_get cell.outs) place ∙ own.3, own.4, own.5))
     | inr later ↦ (
-      let rest = all_sound (c + 1) cells later.0 slot later.2 in
-      (suc rest.0, rest.1, omega (arith, rest.2), rest.3, rest.4, rest.5, rest.6)) ]
+        let rest = all_sound (c + 1) cells later.0 slot later.2 in
+        (suc rest.0, rest.1, omega (arith, rest.2), rest.3, rest.4, rest.5, rest.6))
+  ]
 
   all_complete : (c : ℕ) (cells : List Cell) (d : ℕ) (cell : Cell) (k n : ℕ) → slice_get cells d ≡ Some cell → slice_get cell.outs k ≡ Some (Some (record { 0 = n })) → is_clock net n ≡ false
       → (j : ℕ) × (slot : Slot) × (slice_get (all_slots net numbers c cells) j ≡ Some slot) × (slot.cell ≡ c + d) × (slot.out ≡ k) × (slot.net ≡ n)
@@ -128,9 +135,14 @@ module _ (net : Netlist) (numbers : List ℕ) where
       let own = cell_complete c 0 first.outs k n (ap (λ (o : Cell). slice_get o.outs k) is ∙ on) data_net in
       (own.0, record { level = slice_index numbers n; cell = c; out = 0 + k; net = n }, slice_get_left (cell_slots net numbers c 0 first.outs) (all_slots net numbers (c + 1) cells) own.0 _ own.1, omega arith, omega arith, refl)
   all_complete c (first ∷ cells) (suc d) cell k n at on data_net =
-      let rest = all_complete (c + 1) cells d cell k n at on data_net in
-      (length (cell_slots net numbers c 0 first.outs) + rest.0, rest.1, slice_get_right (cell_slots net numbers c 0 first.outs) (all_slots net numbers (c + 1) cells) _ rest.0 rest.1 refl rest.2,
-       omega (arith, rest.3), rest.4, rest.5)
+      let rest = all_complete (c + 1) cells d cell k n at on data_net in (
+        length (cell_slots net numbers c 0 first.outs) + rest.0,
+        rest.1,
+        slice_get_right (cell_slots net numbers c 0 first.outs) (all_slots net numbers (c + 1) cells) _ rest.0 rest.1 refl rest.2,
+        omega (arith, rest.3),
+        rest.4,
+        rest.5,
+      )
 
   cell_once : (c k : ℕ) (outs : List (Option NetId)) (n : ℕ) → ((i j : ℕ) → slice_get outs i ≡ Some (Some (record { 0 = n })) → slice_get outs j ≡ Some (Some (record { 0 = n })) → i ≡ j) → hits n (cell_slots net numbers c k outs) ≤ 1
   cell_once c k [] n once = omega arith
@@ -140,18 +152,22 @@ module _ (net : Netlist) (numbers : List ℕ) where
     where
       slot : Slot
       slot = record { level = slice_index numbers own.0; cell = c; out = k; net = own.0 }
+
       by : hits n (cell_slots net numbers c (k + 1) outs) ≤ 1 → (b : Bool)
           → hits n (if b then cell_slots net numbers c (k + 1) outs else record { level = slice_index numbers own.0; cell = c; out = k; net = own.0 } ∷ cell_slots net numbers c (k + 1) outs) ≤ 1
       by rest true = rest
-      by rest false = elim (any_slot n (cell_slots net numbers c (k + 1) outs))
-        [ inl other ↦ (elim (hit_or_not n (record { level = slice_index numbers own.0; cell = c; out = k; net = own.0 }))
-          [ inl is ↦ absurd (
-            let there = cell_sound c (k + 1) outs other.0 other.1 other.2 in
-            let e : 0 ≡ suc there.0 = once 0 (suc there.0) (ap (λ (m : ℕ). Some (Some (record { 0 = m }))) is) (there.3 ∙ ap (λ (m : ℕ). Some (Some (record { 0 = m }))) other.3) in omega arith)
-          | inr none ↦ omega (arith, rest, none, sum_by-cons (hit n) (record { level = slice_index numbers own.0; cell = c; out = k; net = own.0 }) (cell_slots net numbers c (k + 1) outs)) ])
-        | inr none ↦ (elim (hit_or_not n (record { level = slice_index numbers own.0; cell = c; out = k; net = own.0 }))
-          [ inl is ↦ omega (arith, none, hit_one n (record { level = slice_index numbers own.0; cell = c; out = k; net = own.0 }) is, sum_by-cons (hit n) (record { level = slice_index numbers own.0; cell = c; out = k; net = own.0 }) (cell_slots net numbers c (k + 1) outs))
-          | inr no_hit ↦ omega (arith, none, no_hit, sum_by-cons (hit n) (record { level = slice_index numbers own.0; cell = c; out = k; net = own.0 }) (cell_slots net numbers c (k + 1) outs)) ]) ]
+      by rest false = elim (any_slot n (cell_slots net numbers c (k + 1) outs)) [
+        | inl other ↦ (elim (hit_or_not n (record { level = slice_index numbers own.0; cell = c; out = k; net = own.0 })) [
+          | inl is ↦ absurd (
+              let there = cell_sound c (k + 1) outs other.0 other.1 other.2 in
+              let e : 0 ≡ suc there.0 = once 0 (suc there.0) (ap (λ (m : ℕ). Some (Some (record { 0 = m }))) is) (there.3 ∙ ap (λ (m : ℕ). Some (Some (record { 0 = m }))) other.3) in omega arith)
+          | inr none ↦ omega (arith, rest, none, sum_by-cons (hit n) (record { level = slice_index numbers own.0; cell = c; out = k; net = own.0 }) (cell_slots net numbers c (k + 1) outs))
+        ])
+        | inr none ↦ (elim (hit_or_not n (record { level = slice_index numbers own.0; cell = c; out = k; net = own.0 })) [
+          | inl is ↦ omega (arith, none, hit_one n (record { level = slice_index numbers own.0; cell = c; out = k; net = own.0 }) is, sum_by-cons (hit n) (record { level = slice_index numbers own.0; cell = c; out = k; net = own.0 }) (cell_slots net numbers c (k + 1) outs))
+          | inr no_hit ↦ omega (arith, none, no_hit, sum_by-cons (hit n) (record { level = slice_index numbers own.0; cell = c; out = k; net = own.0 }) (cell_slots net numbers c (k + 1) outs))
+        ])
+      ]
 
   all_once : (c : ℕ) (cells : List Cell) (n : ℕ)
       → ((d e : ℕ) (a b : Cell) (i j : ℕ) → slice_get cells d ≡ Some a → slice_get cells e ≡ Some b → slice_get a.outs i ≡ Some (Some (record { 0 = n })) → slice_get b.outs j ≡ Some (Some (record { 0 = n })) → (d ≡ e) × (i ≡ j))
@@ -161,15 +177,17 @@ module _ (net : Netlist) (numbers : List ℕ) where
       let own = cell_once c 0 cell.outs n (λ i j at there. (once 0 0 cell cell i j refl refl at there).1) in
       let rest = all_once (c + 1) cells n (λ d e a b i j at there on too. (let same = once (suc d) (suc e) a b i j at there on too in let s : suc d ≡ suc e = same.0 in (omega arith, same.1))) in
       let sum = sum_by-append (hit n) (cell_slots net numbers c 0 cell.outs) (all_slots net numbers (c + 1) cells) in
-      elim (any_slot n (cell_slots net numbers c 0 cell.outs))
-      [ inl one ↦ (elim (any_slot n (all_slots net numbers (c + 1) cells))
-        [ inl two ↦ absurd (
-          let a = cell_sound c 0 cell.outs one.0 one.1 one.2 in
-          let b = all_sound (c + 1) cells two.0 two.1 two.2 in
-          let same = once 0 (suc b.0) cell b.1 a.0 two.1.out refl b.3 (a.3 ∙ ap (λ (m : ℕ). Some (Some (record { 0 = m }))) one.3) (b.4 ∙ ap (λ (m : ℕ). Some (Some (record { 0 = m }))) two.3) in
-          let s : 0 ≡ suc b.0 = same.0 in omega arith)
-        | inr none ↦ omega (arith, own, none, sum) ])
-      | inr none ↦ omega (arith, rest, none, sum) ]
+      elim (any_slot n (cell_slots net numbers c 0 cell.outs)) [
+        | inl one ↦ (elim (any_slot n (all_slots net numbers (c + 1) cells)) [
+          | inl two ↦ absurd (
+              let a = cell_sound c 0 cell.outs one.0 one.1 one.2 in
+              let b = all_sound (c + 1) cells two.0 two.1 two.2 in
+              let same = once 0 (suc b.0) cell b.1 a.0 two.1.out refl b.3 (a.3 ∙ ap (λ (m : ℕ). Some (Some (record { 0 = m }))) one.3) (b.4 ∙ ap (λ (m : ℕ). Some (Some (record { 0 = m }))) two.3) in
+              let s : 0 ≡ suc b.0 = same.0 in omega arith)
+          | inr none ↦ omega (arith, own, none, sum)
+        ])
+        | inr none ↦ omega (arith, rest, none, sum)
+      ]
 
 -- The slots in their order
 
@@ -187,20 +205,26 @@ levels_rise slots sorted j i a b at there order =
 pub slots_ordered : (net : Netlist) (numbers : List ℕ) (made slots : List Slot) → IsFlat net → made ≡ all_slots net numbers 0 net.cells → IsPermutation made slots → IsNonDecreasingBy (λ (slot : Slot). slot.level) slots
     → AreSlots net (slice_index numbers) slots
 slots_ordered net numbers made slots flat is moved sorted = record {
-    sound = λ j slot at.
-      let own = back j slot at in
-      (own.1, record { at = ap (slice_get net.cells) (let e : slot.cell ≡ own.0 = omega (arith, own.2) in e) ∙ own.3; on = own.4 },
-       record { driven = (flat.tables.driven slot.net).1 (inr (slot.cell, own.1, slot.out, record { at = ap (slice_get net.cells) (let e : slot.cell ≡ own.0 = omega (arith, own.2) in e) ∙ own.3; on = own.4 })); no_clock = own.5 });
-    complete = λ c cell k n drives data_net.
+  sound = λ j slot at.
+      let own = back j slot at in (
+        own.1,
+        record { at = ap (slice_get net.cells) (let e : slot.cell ≡ own.0 = omega (arith, own.2) in e) ∙ own.3; on = own.4 },
+        record { driven = (flat.tables.driven slot.net).1 (inr (slot.cell, own.1, slot.out, record { at = ap (slice_get net.cells) (let e : slot.cell ≡ own.0 = omega (arith, own.2) in e) ∙ own.3; on = own.4 })); no_clock = own.5 },
+      );
+  complete = λ c cell k n drives data_net.
       let own = all_complete net numbers 0 net.cells c cell k n drives.at drives.on data_net.no_clock in
       let there = contains_at slots own.1 (Contains-permutation made slots own.1 moved (subst (λ (xs : List Slot). Contains xs own.1) (sym is) (at_contains (all_slots net numbers 0 net.cells) own.0 own.1 own.2))) in
       (there.0, own.1, there.1, omega (arith, own.3), own.4, own.5);
-    apart = apart_from_hits slots (λ n. omega (arith, sum_by-IsPermutation (hit n) made slots moved, ap (hits n) is,
-      all_once net numbers 0 net.cells n (λ d e a b i j at there on too. flat.formed.sources.one_driver d e a b i j n (record { at = at; on = on }) (record { at = there; on = too }))));
-    ordered = λ j i a b at there order.
+  apart = apart_from_hits slots (λ n. omega (
+    arith,
+    sum_by-IsPermutation (hit n) made slots moved,
+    ap (hits n) is,
+    all_once net numbers 0 net.cells n (λ d e a b i j at there on too. flat.formed.sources.one_driver d e a b i j n (record { at = at; on = on }) (record { at = there; on = too })),
+  ));
+  ordered = λ j i a b at there order.
       let own = back j a at in let other = back i b there in
       omega (arith, levels_rise slots sorted j i a b at there order, own.6, other.6);
-  }
+}
   where
     back : (j : ℕ) (slot : Slot) → slice_get slots j ≡ Some slot
         → (d : ℕ) × (cell : Cell) × (slot.cell ≡ 0 + d) × (slice_get net.cells d ≡ Some cell) × (slice_get cell.outs slot.out ≡ Some (Some (record { 0 = slot.net }))) × (is_clock net slot.net ≡ false) × (slot.level ≡ slice_index numbers slot.net)

@@ -1,16 +1,16 @@
 -- The plan of a netlist, and what settling and advancing by it do.
-use Rattle.std.specs.Prelude.{◌≡◌, ◌≢◌, ℕ, ◌+◌, ◌-◌, ◌<◌, ◌≤◌, Bool, true, false, List, [], ◌∷◌, ◌++◌, if◌then◌else◌, slice_index, Option, None, length, take, sum_by, slice_get, slice_range, slice_index_or, Some, ◌⊎◌}
+use Rattle.std.specs.Prelude.{◌≡◌, ◌≢◌, ℕ, ◌+◌, ◌-◌, ◌<◌, ◌≤◌, Bool, true, false, List, [], ◌∷◌, ◌++◌, if◌then◌else◌, slice_index, Option, None, length, take, sum_by, slice_get, slice_range, Some, ◌⊎◌}
 use Rattle.net_core.specs.declared.kind.CellKind.{CellKind}
 use Rattle.net_core.specs.declared.parts.NetId.{NetId}
 use Rattle.net_core.specs.declared.parts.Cell.{Cell}
-use Rattle.net_core.specs.CellTable.{output, pin, content_size, next_content, initial}
-use Rattle.net_core.specs.Netlist.{Netlist, Drives, IsIn, IsData, is_clock, input_nets}
+use Rattle.net_core.specs.CellTable.{output, pin, content_size, next_content}
+use Rattle.net_core.specs.Netlist.{Netlist, Drives, IsData, is_clock, input_nets}
 use Rattle.net_core.specs.WellFormed.{IsFlat}
 use Rattle.net_core.specs.Run.{input_pins}
 use Rattle.net_core.specs.Cycle.{IsRanked}
 use Rattle.clock_sim.specs.declared.plan.Row.{Row}
 use Rattle.clock_sim.specs.declared.plan.Slot.{Slot}
-use Rattle.clock_sim.specs.Reading.{bit_at_place, net_bit, places_of, read_all, HasPins, HasMemoryPins}
+use Rattle.clock_sim.specs.Reading.{bit_at_place, net_bit, places_of, HasPins, HasMemoryPins}
 
 -- the number of a cell's first stored bit: all cells' stored bits stand one after the other
 abbrev pub base_of : List Cell → ℕ → ℕ

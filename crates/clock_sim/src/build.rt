@@ -54,7 +54,11 @@ fn push_places(places: &mut Vec<u32>, ins: &[Pin]) -> Result<(), NoMemory>
 
 /// The rows of the cells, with the places of their pins in one list. It takes time linear in the cells
 /// and pins.
-pub fn push_rows(places: &mut Vec<u32>, rows: &mut Vec<Row>, cells: &[Cell]) -> Result<usize, NoMemory>
+pub fn push_rows(
+    places: &mut Vec<u32>,
+    rows: &mut Vec<Row>,
+    cells: &[Cell],
+) -> Result<usize, NoMemory>
     requires start { (places.old.items ≡ []) × (rows.old.items ≡ []) }
     requires few { length cells.now ≤ 1048576 }
     requires pins { sum_by (λ (cell : CellOf). length cell.ins) cells.now ≤ 16777216 }
@@ -113,7 +117,13 @@ pub fn ordered_slots(alloc: Global, flat: &Flat, numbers: &[u32]) -> Result<Vec<
 {
     let mut slots = Vec::new(alloc);
     for (number, cell) in flat.cells().iter().enumerate() {
-        push_cell_slots(&mut slots, flat, numbers, cell.outs.as_slice(), number as u32)?;
+        push_cell_slots(
+            &mut slots,
+            flat,
+            numbers,
+            cell.outs.as_slice(),
+            number as u32,
+        )?;
     }
     sort_by_level(&mut slots)?;
     Ok(slots)

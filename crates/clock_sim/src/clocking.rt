@@ -78,7 +78,14 @@ fn advance_row(stored: &mut Vec<bool>, values: &[bool], own: &[u32], row: &Row)
 }
 
 // Writes the row of a memory, where WE is 1.
-fn write_memory(stored: &mut Vec<bool>, values: &[bool], own: &[u32], base: usize, aw: usize, dw: usize)
+fn write_memory(
+    stored: &mut Vec<bool>,
+    values: &[bool],
+    own: &[u32],
+    base: usize,
+    aw: usize,
+    dw: usize,
+)
     requires base { base + 2 ^ aw * dw ≤ length stored.old.items }
     requires pins { length own.now ≡ 1 + aw + dw }
     requires address { aw ≤ 17 }
@@ -94,7 +101,14 @@ fn write_memory(stored: &mut Vec<bool>, values: &[bool], own: &[u32], base: usiz
 }
 
 // Writes a row from its first bit on. The lowest bit is that of the last pin.
-fn write_row(stored: &mut Vec<bool>, values: &[bool], own: &[u32], start: usize, last: usize, dw: usize)
+fn write_row(
+    stored: &mut Vec<bool>,
+    values: &[bool],
+    own: &[u32],
+    start: usize,
+    last: usize,
+    dw: usize,
+)
     requires room { start + dw ≤ length stored.old.items }
     requires last { dw ≤ last }
     ensures { WritesRow start last dw (read_all values.now own.now) stored.old.items stored.new.items }

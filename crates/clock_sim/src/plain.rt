@@ -3,8 +3,8 @@ ghost use Rattle.net_core.specs.Netlist.{Netlist};
 ghost use Rattle.net_core.specs.Run.{StandsFor};
 ghost use Rattle.clock_sim.specs.Plan.{net_bits, net_content};
 
-use crate::evaluate::bit_number;
 use crate::clocking::{advance, place_inputs, settle};
+use crate::evaluate::bit_number;
 use crate::plan::{Row, Slot};
 use net_core::{CellId, Flat, Machine, NetId};
 use std::marker::Model;
@@ -34,7 +34,9 @@ impl<'a> Model for Plain<'a> {
 
 impl<'a> Machine for Plain<'a> {
     ghost netlist = { λ plain. plain.net };
+
     ghost bit = { λ plain. net_bits plain };
+
     ghost content = { λ plain. net_content plain };
 
     fn step(&mut self, inputs: &[bool]) {

@@ -1,15 +1,15 @@
 -- The input bits of a netlist are all different.
-use Rattle.std.proofs.Common.{◌≡◌, ℕ, zero, suc, ◌+◌, ◌<◌, ◌≤◌, Bool, true, false, not, cond, List, [], ◌∷◌, ◌++◌, map, filter, length, take, sum_by, slice_get, Option, Some, None, refl, ap, sym, ◌∙◌, subst, arith, inl, inr, ◌⊎◌}
+use Rattle.std.proofs.Common.{◌≡◌, ℕ, zero, suc, ◌+◌, ◌≤◌, Bool, true, false, not, cond, List, [], ◌∷◌, ◌++◌, map, filter, length, take, slice_get, Option, Some, None, refl, ap, sym, ◌∙◌, subst, arith, inl, inr}
 use Rattle.std.specs.List.{range_with_len, flat_map}
 use Rattle.std.specs.Option.{option_map_or}
 use Rattle.std.proofs.lemmas.List.{length-map}
 use Rattle.std.proofs.lemmas.List.Sums.{sum_by-cons}
-use Rattle.std.proofs.lemmas.Option.{same_Some, slice_get_within}
+use Rattle.std.proofs.lemmas.Option.{same_Some}
 use Rattle.net_core.specs.declared.parts.NetId.{NetId}
 use Rattle.net_core.specs.declared.parts.Group.{Group}
 use Rattle.net_core.specs.declared.parts.Port.{Port}
-use Rattle.net_core.specs.Netlist.{Parts, Netlist, parts_of, group_nets, all_nets, net_count, port_nets, input_bits, input_nets, is_clock}
-use Rattle.net_core.specs.WellFormed.{AllDiffer, IsWellFormed, IsFlat}
+use Rattle.net_core.specs.Netlist.{Netlist, parts_of, group_nets, all_nets, net_count, port_nets, input_bits, input_nets, is_clock}
+use Rattle.net_core.specs.WellFormed.{AllDiffer, IsFlat}
 use Rattle.net_core.proofs.ListLemmas.{slice_get_append}
 use Rattle.net_core.proofs.NetNameLemmas.{range_number}
 use Rattle.net_core.proofs.PartsLemmas.{filter_some}
@@ -31,15 +31,19 @@ fresh_join low count high xs order fresh = record { above = above; differ = diff
   where
     above : (i x : ℕ) → slice_get (range_with_len low count ++ xs) i ≡ Some x → low ≤ x
     above i x at = elim (slice_get_append (range_with_len low count) xs i x at)
-      [ inl here ↦ omega (arith, (range_number low count i x here).0) | inr later ↦ omega (arith, order, fresh.above later.0 x later.2) ]
+        [ inl here ↦ omega (arith, (range_number low count i x here).0) | inr later ↦ omega (arith, order, fresh.above later.0 x later.2) ]
+
     differ : AllDiffer (range_with_len low count ++ xs)
-    differ i j x at there = elim (slice_get_append (range_with_len low count) xs i x at)
-      [ inl here ↦ (elim (slice_get_append (range_with_len low count) xs j x there)
-        [ inl here' ↦ (let a = range_number low count i x here in let b = range_number low count j x here' in omega (arith, a.0, b.0))
-        | inr later ↦ absurd (let a = range_number low count i x here in omega (arith, a.0, a.1, order, fresh.above later.0 x later.2)) ])
-      | inr later ↦ (elim (slice_get_append (range_with_len low count) xs j x there)
-        [ inl here ↦ absurd (let a = range_number low count j x here in omega (arith, a.0, a.1, order, fresh.above later.0 x later.2))
-        | inr later' ↦ (let same : later.0 ≡ later'.0 = fresh.differ later.0 later'.0 x later.2 later'.2 in omega (arith, later.1, later'.1, same)) ]) ]
+    differ i j x at there = elim (slice_get_append (range_with_len low count) xs i x at) [
+      | inl here ↦ (elim (slice_get_append (range_with_len low count) xs j x there) [
+        | inl here' ↦ (let a = range_number low count i x here in let b = range_number low count j x here' in omega (arith, a.0, b.0))
+        | inr later ↦ absurd (let a = range_number low count i x here in omega (arith, a.0, a.1, order, fresh.above later.0 x later.2))
+      ])
+      | inr later ↦ (elim (slice_get_append (range_with_len low count) xs j x there) [
+        | inl here ↦ absurd (let a = range_number low count j x here in omega (arith, a.0, a.1, order, fresh.above later.0 x later.2))
+        | inr later' ↦ (let same : later.0 ≡ later'.0 = fresh.differ later.0 later'.0 x later.2 later'.2 in omega (arith, later.1, later'.1, same))
+      ])
+    ]
 
 range_append : (low a b : ℕ) (xs ys : List ℕ) → length xs ≡ a → xs ++ ys ≡ range_with_len low (a + b) → (xs ≡ range_with_len low a) × (ys ≡ range_with_len (low + a) b)
 range_append low a b [] ys size is =
@@ -64,15 +68,15 @@ group_range [] low g group numbered at = absurd (cc at)
 group_range (first ∷ groups) low zero group numbered at =
     let is : first ≡ group = same_Some _ _ at in
     let split = range_append low (length first.bits) (net_count groups) (group_nets first) (all_nets groups) (length-map first.bits (λ (b : NetId). b.0))
-        (numbered ∙ ap (range_with_len low) (sum_by-cons (λ (group : Group). length group.bits) first groups)) in
+    (numbered ∙ ap (range_with_len low) (sum_by-cons (λ (group : Group). length group.bits) first groups)) in
     let start : low ≡ low + net_count (take 0 (first ∷ groups)) = omega arith in
     subst (λ (o : Group). group_nets o ≡ range_with_len (low + net_count (take 0 (first ∷ groups))) (length o.bits)) is (split.0 ∙ ap (λ k. range_with_len k (length first.bits)) start)
 group_range (first ∷ groups) low (suc g) group numbered at =
     let split = range_append low (length first.bits) (net_count groups) (group_nets first) (all_nets groups) (length-map first.bits (λ (b : NetId). b.0))
-        (numbered ∙ ap (range_with_len low) (sum_by-cons (λ (group : Group). length group.bits) first groups)) in
+    (numbered ∙ ap (range_with_len low) (sum_by-cons (λ (group : Group). length group.bits) first groups)) in
     let rest = group_range groups (low + length first.bits) g group split.1 at in
     let start : low + length first.bits + net_count (take g groups) ≡ low + net_count (take (suc g) (first ∷ groups)) =
-        (let e = sum_by-cons (λ (group : Group). length group.bits) first (take g groups) in omega (arith, e)) in
+    (let e = sum_by-cons (λ (group : Group). length group.bits) first (take g groups) in omega (arith, e)) in
     rest ∙ ap (λ k. range_with_len k (length group.bits)) start
 
 count_more : (groups : List Group) (g : ℕ) (group : Group) → slice_get groups g ≡ Some group → net_count (take (suc g) groups) ≡ net_count (take g groups) + length group.bits
@@ -110,6 +114,7 @@ ports_fresh groups numbered test (port ∷ ports) g order = by (test port) (slic
   where
     own : port.group ≡ g
     own = cc order
+
     by : (b : Bool) (o : Option Group) → slice_get groups port.group ≡ o → IsFresh (net_count (take (g + 1) groups)) (flat_map (port_nets groups) (filter test ports))
         → IsFresh (net_count (take g groups)) (flat_map (port_nets groups) (cond b (port ∷ filter test ports) (filter test ports)))
     by false o there rest = fresh_lower _ _ _ (take_rises groups g) rest
@@ -119,11 +124,11 @@ ports_fresh groups numbered test (port ∷ ports) g order = by (test port) (slic
     by true (Some group) there rest =
         let at : slice_get groups g ≡ Some group = ap (slice_get groups) (sym own) ∙ there in
         let nets : port_nets groups port ≡ range_with_len (net_count (take g groups)) (length group.bits) =
-            ap (λ (o : Option Group). option_map_or group_nets o []) there ∙ group_range groups 0 g group numbered at
-            ∙ (let e : 0 + net_count (take g groups) ≡ net_count (take g groups) = omega arith in ap (λ k. range_with_len k (length group.bits)) e) in
+        ap (λ (o : Option Group). option_map_or group_nets o []) there ∙ group_range groups 0 g group numbered at
+        ∙ (let e : 0 + net_count (take g groups) ≡ net_count (take g groups) = omega arith in ap (λ k. range_with_len k (length group.bits)) e) in
         let next : g + 1 ≡ suc g = omega arith in
         let ends : net_count (take g groups) + length group.bits ≤ net_count (take (g + 1) groups) =
-            (let e = count_more groups g group at in let f : net_count (take (g + 1) groups) ≡ net_count (take (suc g) groups) = ap (λ k. net_count (take k groups)) next in omega (arith, e, f)) in
+        (let e = count_more groups g group at in let f : net_count (take (g + 1) groups) ≡ net_count (take (suc g) groups) = ap (λ k. net_count (take k groups)) next in omega (arith, e, f)) in
         subst (λ (xs : List ℕ). IsFresh (net_count (take g groups)) (xs ++ flat_map (port_nets groups) (filter test ports))) (sym nets)
         (fresh_join (net_count (take g groups)) (length group.bits) (net_count (take (g + 1) groups)) (flat_map (port_nets groups) (filter test ports)) ends rest)
 

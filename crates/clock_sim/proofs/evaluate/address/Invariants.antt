@@ -1,4 +1,4 @@
-use Rattle.std.proofs.Common.{◌≡◌, ◌<◌, ◌≤◌, ◌^◌, ◌-◌, drop, reverse, length}
+use Rattle.std.proofs.Common.{◌≡◌, ◌<◌, ◌^◌, ◌-◌, drop, reverse, length}
 use Rattle.net_core.specs.CellTable.{binary}
 use Rattle.clock_sim.specs.Reading.{read_all}
 use Rattle.clock_sim.proofs.evaluate.address.Given as goal

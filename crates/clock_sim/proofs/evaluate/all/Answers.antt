@@ -1,4 +1,4 @@
-use Rattle.std.proofs.Common.{◌≡◌, ap, sym, ◌∙◌, ◌&&◌, take, Bool}
+use Rattle.std.proofs.Common.{ap, sym, ◌∙◌, ◌&&◌, take, Bool}
 use Rattle.std.specs.List.{list_all}
 use Rattle.clock_sim.specs.Reading.{bit_at_place, read_all}
 use Rattle.clock_sim.proofs.EvaluateLemmas.{all_pins}

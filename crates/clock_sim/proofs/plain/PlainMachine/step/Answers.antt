@@ -35,12 +35,12 @@ advanced c =
 pub invariant_of-self : goal.invariant_of-self
 invariant_of-self c =
     keeps_after c.self.inside.flat.now c.self.inside.inputs.items c.self.inside.pins.items c.self.inside.rows.items c.self.inside.slots.items c.self.inside.values.items c.self.inside.stored.items c.self.invariant
-        c.args.inputs.now c.place_inputs.new.values.items c.settle.new.values.items c.advance.new.stored.items (size c) (placed c) (settled c) (advanced c)
+    c.args.inputs.now c.place_inputs.new.values.items c.settle.new.values.items c.advance.new.stored.items (size c) (placed c) (settled c) (advanced c)
 
 pub returns-clause-stands : goal.returns-clause-stands
 returns-clause-stands c = λ history stands.
     let before : StandsFor c.self.inside.flat.now (net_bit c.self.inside.values.items) (stored_bit c.self.inside.flat.now.cells c.self.inside.stored.items) history =
-        subst (λ (state : State). StandsFor state.net (net_bits state) (net_content state) history) (sym c.self.view_is) stands in
+    subst (λ (state : State). StandsFor state.net (net_bits state) (net_content state) history) (sym c.self.view_is) stands in
     subst (λ (net : Netlist). StandsFor net (net_bit c.settle.new.values.items) (stored_bit c.self.inside.flat.now.cells c.advance.new.stored.items) (history ++ c.args.inputs.now ∷ [])) (ap (λ (state : State). state.net) c.self.view_is)
-        (stands_after c.self.inside.flat.now c.self.inside.inputs.items c.self.inside.pins.items c.self.inside.rows.items c.self.inside.slots.items c.self.inside.values.items c.self.inside.stored.items c.self.invariant
-            c.args.inputs.now c.place_inputs.new.values.items c.settle.new.values.items c.advance.new.stored.items (size c) (placed c) (settled c) (advanced c) history before)
+    (stands_after c.self.inside.flat.now c.self.inside.inputs.items c.self.inside.pins.items c.self.inside.rows.items c.self.inside.slots.items c.self.inside.values.items c.self.inside.stored.items c.self.invariant
+    c.args.inputs.now c.place_inputs.new.values.items c.settle.new.values.items c.advance.new.stored.items (size c) (placed c) (settled c) (advanced c) history before)

@@ -1,7 +1,7 @@
-use Rattle.std.proofs.Common.{◌≡◌, ◌+◌, ◌<◌, ◌^◌, ℕ, length, refl, arith, ap, sym, ◌∙◌, slice_get, Some}
+use Rattle.std.proofs.Common.{◌≡◌, ◌+◌, ◌<◌, ◌^◌, ℕ, length, refl, arith, ap, ◌∙◌, slice_get, Some}
 use Rattle.std.proofs.lemmas.Option.{slice_get_read, slice_get_within}
 use Rattle.clock_sim.specs.Reading.{bit_at_place}
-use Rattle.clock_sim.specs.Plan.{State, base_of, stored_bit, net_content}
+use Rattle.clock_sim.specs.Plan.{State, base_of, net_content}
 use Rattle.clock_sim.proofs.PlainLemmas.{stored_within}
 use Rattle.clock_sim.proofs.plain.PlainMachine.stored.Goals as goal
 use Rattle.clock_sim.proofs.plain.PlainMachine.stored.Goals.{After-index}
@@ -17,7 +17,7 @@ at_row c =
 facts : (c : After-index) → (c.index.result.now.base + c.args.index < length c.self.inside.stored.items) × (c.index.result.now.base ≡ base_of c.self.inside.flat.now.cells c.args.cell.0)
 facts c =
     stored_within c.self.inside.flat.now c.self.inside.inputs.items c.self.inside.pins.items c.self.inside.rows.items c.self.inside.slots.items c.self.inside.values.items c.self.inside.stored.items c.self.invariant
-        c.args.cell.0 c.args.index c.requires.0 c.index.result.now (at_cell c) (at_row c) c.requires.2
+    c.args.cell.0 c.args.index c.requires.0 c.index.result.now (at_cell c) (at_row c) c.requires.2
 
 pub overflow_add-base : goal.overflow_add-base
 overflow_add-base c =
