@@ -3,7 +3,7 @@ use Rattle.std.specs.Prelude.{◌≡◌, ◌≢◌, ℕ, ◌+◌, ◌-◌, ◌<�
 use Rattle.net_core.specs.declared.kind.CellKind.{CellKind}
 use Rattle.net_core.specs.declared.parts.NetId.{NetId}
 use Rattle.net_core.specs.declared.parts.Cell.{Cell}
-use Rattle.net_core.specs.CellTable.{output, pin, content_size, next_content}
+use Rattle.net_core.specs.CellTable.{output, pin, content_size, next_content, initial}
 use Rattle.net_core.specs.Netlist.{Netlist, Drives, IsData, is_clock, input_nets}
 use Rattle.net_core.specs.WellFormed.{IsFlat}
 use Rattle.net_core.specs.Run.{input_pins}
@@ -145,3 +145,8 @@ cell_slots net numbers c k (Some own ∷ outs) =
 abbrev pub all_slots : Netlist → List ℕ → ℕ → List Cell → List Slot
 all_slots net numbers c [] = []
 all_slots net numbers c (cell ∷ cells) = cell_slots net numbers c 0 cell.outs ++ all_slots net numbers (c + 1) cells
+
+-- the stored bits of the first cells at clock 0
+pub record IsStartTo (cells : List Cell) (i : ℕ) (stored : List Bool) : Type 0 where
+  pub size : length stored ≡ base_of cells i
+  pub bits : (c : ℕ) (cell : Cell) (k : ℕ) → c < i → slice_get cells c ≡ Some cell → k < content_size cell.kind → stored_bit cells stored c k ≡ initial cell.kind k

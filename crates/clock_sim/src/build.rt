@@ -1,20 +1,20 @@
 //! The plan of a netlist is made: its rows of cells, its slots in the order of levels, and the bits at
 //! clock 0.
-ghost use Rattle.std.specs.Prelude.{◌≡◌, ℕ, ◌<◌, ◌≤◌, ◌^◌, ◌+◌, List, [], ◌∷◌, ◌++◌, Some, IfOk, IfSome, OnOk, length, sum_by, slice_get, slice_index};
+ghost use Rattle.std.specs.Prelude.{◌≡◌, ℕ, ◌<◌, ◌≤◌, ◌^◌, ◌+◌, List, [], ◌∷◌, ◌++◌, Some, IfOk, IfSome, OnOk, not, filter, length, sum_by, slice_get, slice_index};
 ghost use Rattle.std.specs.List.Sorted.{IsPermutation, IsNonDecreasingBy};
 ghost use Rattle.clock_sim.specs.declared.plan.Slot.{Slot as SlotOf};
 ghost use Rattle.net_core.specs.CellTable as kinds;
-ghost use Rattle.net_core.specs.Netlist.{Netlist, input_nets, net_count};
+ghost use Rattle.net_core.specs.Netlist.{Netlist, input_nets, net_count, numbers as numbers_of, port_nets, is_clock};
 ghost use Rattle.net_core.specs.WellFormed.{IsFlat};
 ghost use Rattle.net_core.specs.Run.{IsStart};
 ghost use Rattle.net_core.specs.Cycle.{IsRanked};
 ghost use Rattle.net_core.specs.declared.parts.Cell.{Cell as CellOf};
 ghost use Rattle.clock_sim.specs.Reading.{place_of, places_of};
-ghost use Rattle.clock_sim.specs.Plan.{base_of, stored_bit, AreRowsTo, AreSlots, IsPlan, HasConstants, cell_slots, all_slots};
+ghost use Rattle.clock_sim.specs.Plan.{base_of, stored_bit, AreRowsTo, AreSlots, IsPlan, HasConstants, IsStartTo, cell_slots, all_slots};
 
 use crate::plan::{Row, Slot};
 use ila_base::NoMemory;
-use net_core::{Cell, CellKind, Flat, NetId, Pin};
+use net_core::{Cell, CellKind, Flat, NetId, Pin, Port};
 use std::alloc::Global;
 
 // How many bits a cell stores.
@@ -136,4 +136,74 @@ fn sort_by_level(slots: &mut Vec<Slot>) -> Result<(), NoMemory>
 {
     slots.sort_by_key(|slot| slot.level)?;
     Ok(())
+}
+
+// Adds those of the nets that carry no clock.
+fn push_data(nets: &mut Vec<u32>, flat: &Flat, bits: &[NetId]) -> Result<(), NoMemory>
+    ensures { OnOk result (nets.new.items ≡ nets.old.items ++ filter (λ n. not (is_clock flat.now n)) (numbers_of bits.now)) }
+{
+    for net in bits {
+        if !flat.is_clock(*net) {
+            nets.push(net.0)?;
+        }
+    }
+    Ok(())
+}
+
+// Adds the data bits of a port.
+fn push_port(nets: &mut Vec<u32>, flat: &Flat, port: &Port) -> Result<(), NoMemory>
+    ensures { OnOk result (nets.new.items ≡ nets.old.items ++ filter (λ n. not (is_clock flat.now n)) (port_nets flat.now.groups port.now)) }
+{
+    match flat.groups().get(port.group as usize) {
+        Some(group) => push_data(nets, flat, group.bits.as_slice()),
+        None => Ok(()),
+    }
+}
+
+/// The data bits of the inputs, in port order.
+pub fn data_inputs(alloc: Global, flat: &Flat) -> Result<Vec<u32>, NoMemory>
+    ensures { IfOk result (λ nets. nets.items ≡ input_nets flat.now) }
+{
+    let mut nets = Vec::new(alloc);
+    for port in flat.ports() {
+        if !port.output {
+            push_port(&mut nets, flat, port)?;
+        }
+    }
+    Ok(nets)
+}
+
+/// The bits at the places before the first clock: all are 0 but the constant 1.
+pub fn start_values(alloc: Global, count: usize) -> Result<Vec<bool>, NoMemory>
+    requires { count < 2 ^ 32 }
+    ensures size { IfOk result (λ values. length values.items ≡ count + 2) }
+    ensures constants { IfOk result (λ values. HasConstants values.items) }
+{
+    let mut values = vec![in alloc; false; count + 2]?;
+    values[1] = true;
+    Ok(values)
+}
+
+// The bit that each stored bit of a cell is at clock 0.
+fn initial_bit(kind: CellKind) -> bool
+    ensures { (i : ℕ) → kinds.initial kind i ≡ result }
+{
+    match kind {
+        CellKind::Fdre(init) | CellKind::Fdse(init) | CellKind::Fdce(init) | CellKind::Fdpe(init) => init,
+        _ => false,
+    }
+}
+
+/// The stored bits of the cells at clock 0, one cell's after the other's.
+pub fn start_stored(alloc: Global, cells: &[Cell]) -> Result<Vec<bool>, NoMemory>
+    requires few { length cells.now ≤ 1048576 }
+    requires allowed { (c : ℕ) (cell : _) → slice_get cells.now c ≡ Some cell → kinds.IsAllowed cell.kind }
+    ensures { IfOk result (λ stored. IsStartTo cells.now (length cells.now) stored.items) }
+{
+    let mut stored = Vec::new(alloc);
+    for cell in cells {
+        let end = stored.len() + content_size(cell.kind);
+        stored.resize(end, initial_bit(cell.kind))?;
+    }
+    Ok(stored)
 }
