@@ -4,3 +4,4 @@ pub mod AdvanceLemmas
 pub mod PlainLemmas
 pub mod BuildLemmas
 pub mod SlotLemmas
+pub mod StartLemmas
