@@ -17,7 +17,7 @@ use Rattle.clock_sim.specs.Reading.{bit_at_place, net_bit, read_all}
 use Rattle.clock_sim.specs.Plan.{base_of, stored_bit, IsRow, HasRows, AdvancesRow, WritesRow, IsAdvancedTo}
 use Rattle.clock_sim.proofs.SettleLemmas.{read_pins}
 
-there_is : {A : Type 0} (xs : List A) (i : ℕ) → i < length xs → (x : A) × (slice_get xs i ≡ Some x)
+pub there_is : {A : Type 0} (xs : List A) (i : ℕ) → i < length xs → (x : A) × (slice_get xs i ≡ Some x)
 there_is [] i low = absurd (omega (arith, low))
 there_is (x ∷ xs) zero low = (x, refl)
 there_is (x ∷ xs) (suc i) low = there_is xs i (omega (arith, low))

@@ -5,3 +5,4 @@ pub mod PlainLemmas
 pub mod BuildLemmas
 pub mod SlotLemmas
 pub mod StartLemmas
+pub mod PlanLemmas

@@ -189,7 +189,8 @@ fn initial_bit(kind: CellKind) -> bool
     ensures { (i : ℕ) → kinds.initial kind i ≡ result }
 {
     match kind {
-        CellKind::Fdre(init) | CellKind::Fdse(init) | CellKind::Fdce(init) | CellKind::Fdpe(init) => init,
+        CellKind::Fdre(init) | CellKind::Fdse(init) | CellKind::Fdce(init) | CellKind::Fdpe(init) =>
+            init,
         _ => false,
     }
 }
