@@ -6,6 +6,8 @@ mod clocking;
 mod evaluate;
 mod plain;
 mod plan;
+#[cfg(test)]
+mod tests;
 
 pub use evaluate::{next_bit, output};
 pub use plain::Plain;
