@@ -1,0 +1,125 @@
+-- The plan as it is made.
+use Rattle.std.proofs.Common.{◌≡◌, ℕ, zero, suc, ◌+◌, ◌-◌, ◌*◌, ◌^◌, ◌<◌, ◌≤◌, List, [], ◌∷◌, ◌++◌, length, take, drop, sum_by, slice_get, slice_range, Some, refl, ap, sym, ◌∙◌, subst, arith, inl, inr, pow_mono}
+use Rattle.std.proofs.lemmas.List.{length-map, length-append, take-append-le, length-drop}
+use Rattle.std.proofs.lemmas.List.Sums.{sum_by-cons, sum_by-append}
+use Rattle.std.proofs.lemmas.Option.{same_Some, slice_get_within}
+use Rattle.std.proofs.Math.Nat.{mul-le-mul_left, mul_comm}
+use Rattle.std.proofs.Math.Seq.{drop-append_seam}
+use Rattle.net_core.specs.declared.kind.CellKind.{CellKind}
+use Rattle.net_core.specs.declared.kind.CellKind.TheVariants.{Gate, Lut, Inv, Ibuf, Obuf, Bufg, Gnd, Vcc, Muxf7, Muxf8, Carry4, Fdre, Fdse, Fdce, Fdpe, Mem}
+use Rattle.net_core.specs.declared.parts.Cell.{Cell}
+use Rattle.net_core.specs.CellTable.{content_size, IsAllowed}
+use Rattle.net_core.proofs.ListLemmas.{slice_get_append}
+use Rattle.net_core.proofs.NumberLemmas.{take_one_more}
+use Rattle.clock_sim.specs.declared.plan.Row.{Row}
+use Rattle.clock_sim.specs.Reading.{place_of, places_of}
+use Rattle.clock_sim.specs.Plan.{base_of, AreRowsTo}
+use Rattle.clock_sim.proofs.AdvanceLemmas.{base_more}
+
+size_small : (kind : CellKind) → IsAllowed kind → content_size kind ≤ 2 ^ 27
+size_small (Fdre init) allowed = omega arith
+size_small (Fdse init) allowed = omega arith
+size_small (Fdce init) allowed = omega arith
+size_small (Fdpe init) allowed = omega arith
+size_small (Mem aw dw) allowed =
+    let rows : 2 ^ aw ≤ 2 ^ 17 = pow_mono allowed.1 in
+    let one : dw * 2 ^ aw ≤ dw * 2 ^ 17 = mul-le-mul_left dw rows in
+    omega (arith, one, allowed.3, mul_comm dw (2 ^ aw))
+size_small (Gate code) allowed = omega arith
+size_small (Lut n init) allowed = omega arith
+size_small Inv allowed = omega arith
+size_small Ibuf allowed = omega arith
+size_small Obuf allowed = omega arith
+size_small Bufg allowed = omega arith
+size_small Gnd allowed = omega arith
+size_small Vcc allowed = omega arith
+size_small Muxf7 allowed = omega arith
+size_small Muxf8 allowed = omega arith
+size_small Carry4 allowed = omega arith
+
+-- all stored bits are few enough to number
+base_small : (cells : List Cell) (i : ℕ) → ((c : ℕ) (cell : Cell) → slice_get cells c ≡ Some cell → IsAllowed cell.kind) → base_of cells i ≤ i * 2 ^ 27
+base_small [] zero allowed = omega arith
+base_small [] (suc i) allowed = omega arith
+base_small (cell ∷ cells) zero allowed = omega arith
+base_small (cell ∷ cells) (suc i) allowed =
+    omega (arith, base_small cells i (λ c. allowed (suc c)), size_small cell.kind (allowed 0 cell refl), sum_by-cons (λ (cell : Cell). content_size cell.kind) cell (take i cells))
+
+pub base_fits : (cells : List Cell) (i : ℕ) (cell : Cell) → ((c : ℕ) (cell : Cell) → slice_get cells c ≡ Some cell → IsAllowed cell.kind) → i ≤ 1048576 → slice_get cells i ≡ Some cell
+    → base_of cells i + content_size cell.kind < 2 ^ 64
+base_fits cells i cell allowed few at = omega (arith, base_small cells i allowed, size_small cell.kind (allowed i cell at), few)
+
+-- a part of a list stays when the list grows
+drop_append : {A : Type 0} (n : ℕ) (xs ys : List A) → n ≤ length xs → drop n (xs ++ ys) ≡ drop n xs ++ ys
+drop_append zero xs ys low = refl
+drop_append (suc n) [] ys low = absurd (omega (arith, low))
+drop_append (suc n) (x ∷ xs) ys low = drop_append n xs ys (omega (arith, low))
+
+range_stays : {A : Type 0} (xs ys : List A) (a b : ℕ) → a ≤ b → b ≤ length xs → slice_range (xs ++ ys) a b ≡ slice_range xs a b
+range_stays xs ys a b order low =
+    ap (take (b - a)) (drop_append a xs ys (omega (arith, order, low))) ∙ take-append-le (b - a) (drop a xs) ys (omega (arith, order, low, length-drop a xs))
+
+take_whole : {A : Type 0} (n : ℕ) (xs : List A) → n ≡ length xs → take n xs ≡ xs
+take_whole zero [] is = refl
+take_whole zero (x ∷ xs) is = absurd (omega (arith, is))
+take_whole (suc n) [] is = refl
+take_whole (suc n) (x ∷ xs) is = ap (λ rest. x ∷ rest) (take_whole n xs (omega (arith, is)))
+
+range_new : {A : Type 0} (xs ys : List A) (a b : ℕ) → a ≡ length xs → b ≡ length xs + length ys → slice_range (xs ++ ys) a b ≡ ys
+range_new xs ys a b start end =
+    ap (λ n. take (b - n) (drop n (xs ++ ys))) start ∙ ap (take (b - length xs)) (drop-append_seam xs ys) ∙ take_whole (b - length xs) ys (omega (arith, end))
+
+pub rows_none : (cells : List Cell) (places : List ℕ) (rows : List Row) → places ≡ [] → rows ≡ [] → AreRowsTo cells 0 places rows 0
+rows_none cells places rows no_places no_rows = record {
+  size = ap length no_rows;
+  place_count = ap length no_places ∙ none cells;
+  next_base = none_base cells;
+  each = λ c cell row at there. absurd (none_at c row (sym (ap (λ rs. slice_get rs c) no_rows) ∙ there));
+}
+  where
+    none : (cells : List Cell) → 0 ≡ sum_by (λ (cell : Cell). length cell.ins) (take 0 cells)
+    none [] = refl
+    none (cell ∷ cells) = refl
+
+    none_base : (cells : List Cell) → 0 ≡ base_of cells 0
+    none_base [] = refl
+    none_base (cell ∷ cells) = refl
+
+    none_at : (c : ℕ) (row : Row) → slice_get {X = Row} [] c ≡ Some row → ⊥
+    none_at c row at = cc at
+
+pub rows_more : (cells : List Cell) (i : ℕ) (cell : Cell) (places grown : List ℕ) (rows more : List Row) (base next : ℕ) (row : Row) → slice_get cells i ≡ Some cell → AreRowsTo cells i places rows base
+    → grown ≡ places ++ places_of cell.ins → more ≡ rows ++ row ∷ [] → next ≡ base + content_size cell.kind
+    → row.kind ≡ cell.kind → row.first ≡ length places → row.last ≡ length grown → row.base ≡ base → AreRowsTo cells (i + 1) grown more next
+rows_more cells i cell places grown rows more base next row at so_far grows pushed after kind first last at_base = record {
+  size = ap length pushed ∙ (let e = length-append rows (row ∷ []) in omega (arith, e, so_far.size));
+  place_count = (let e = length-append places (places_of cell.ins) in let f = length-map cell.ins place_of in
+      let g = sum_by-append (λ (cell : Cell). length cell.ins) (take i cells) (cell ∷ []) in let h = sum_by-cons (λ (cell : Cell). length cell.ins) cell [] in
+      let k = ap (sum_by (λ (cell : Cell). length cell.ins)) (take_one_more cells i cell at) in
+      omega (arith, e, f, g, h, k, ap length grows, so_far.place_count));
+  next_base = after ∙ (let e = base_more cells i cell at in omega (arith, e, so_far.next_base));
+  each = each;
+}
+  where
+    size : length grown ≡ length places + length (places_of cell.ins)
+    size = ap length grows ∙ length-append places (places_of cell.ins)
+
+    each : (c : ℕ) (o : Cell) (r : Row) → slice_get cells c ≡ Some o → slice_get more c ≡ Some r
+        → (r.kind ≡ o.kind) × (slice_range grown r.first r.last ≡ places_of o.ins) × (r.base ≡ base_of cells c) × (r.first ≤ r.last) × (r.last ≤ length grown)
+    each c o r there own = elim (slice_get_append rows (row ∷ []) c r (sym (ap (λ rs. slice_get rs c) pushed) ∙ own)) [
+      | inl here ↦ (
+          let before = so_far.each c o r there here in
+          (before.0, ap (λ xs. slice_range xs r.first r.last) grows ∙ range_stays places (places_of cell.ins) r.first r.last before.3 before.4 ∙ before.1, before.2, before.3, omega (arith, before.4, size)))
+      | inr later ↦ (
+          let first_one : later.0 ≡ 0 = omega (arith, slice_get_within (row ∷ []) later.0 r later.2) in
+          let is_row : row ≡ r = same_Some _ _ (sym (ap (slice_get (row ∷ [])) first_one) ∙ later.2) in
+          let place : c ≡ i = omega (arith, later.1, first_one, so_far.size) in
+          let is_cell : cell ≡ o = same_Some _ _ (sym at ∙ ap (slice_get cells) (sym place) ∙ there) in
+          subst (λ (r : Row). (r.kind ≡ o.kind) × (slice_range grown r.first r.last ≡ places_of o.ins) × (r.base ≡ base_of cells c) × (r.first ≤ r.last) × (r.last ≤ length grown)) is_row (
+            kind ∙ ap (λ (o : Cell). o.kind) is_cell,
+            ap (λ xs. slice_range xs row.first row.last) grows ∙ range_new places (places_of cell.ins) row.first row.last first (last ∙ size) ∙ ap (λ (o : Cell). places_of o.ins) is_cell,
+            at_base ∙ so_far.next_base ∙ ap (base_of cells) (sym place),
+            omega (arith, first, last, size),
+            omega (arith, last),
+          ))
+    ]

@@ -1,0 +1,143 @@
+-- What a new plain simulator keeps.
+use Rattle.std.proofs.Common.{◌≡◌, ℕ, zero, suc, ◌+◌, ◌^◌, ◌<◌, ◌≤◌, Bool, List, [], ◌∷◌, length, replicate, fold, sum, sum_by, slice_get, slice_index, slice_range, Some, ap, sym, ◌∙◌, subst, arith}
+use Rattle.std.proofs.lemmas.List.{length-map}
+use Rattle.std.proofs.lemmas.List.Sums.{sum_by-cons}
+use Rattle.std.proofs.lemmas.Option.{slice_get_within}
+use Rattle.net_core.specs.declared.kind.CellKind.{CellKind}
+use Rattle.net_core.specs.declared.kind.CellKind.TheVariants.{Gate, Lut, Inv, Ibuf, Obuf, Bufg, Gnd, Vcc, Muxf7, Muxf8, Carry4, Fdre, Fdse, Fdce, Fdpe, Mem}
+use Rattle.net_core.specs.declared.parts.Pin.{Pin}
+use Rattle.net_core.specs.declared.parts.Pin.TheVariants as pins
+use Rattle.net_core.specs.declared.parts.Cell.{Cell}
+use Rattle.net_core.specs.CellTable.{content_size, IsAllowed, IsPinCount, input_widths, output_widths}
+use Rattle.net_core.specs.Netlist.{Netlist, parts_of, net_count, input_nets, input_bits}
+use Rattle.net_core.specs.WellFormed.{IsFlat, pin_count}
+use Rattle.net_core.specs.Run.{StandsFor}
+use Rattle.net_core.specs.Cycle.{IsRanked}
+use Rattle.net_core.proofs.PartsLemmas.{filter_some, input_of, input_within, read_within}
+use Rattle.net_core.proofs.RunLemmas.{stands_none}
+use Rattle.clock_sim.specs.declared.plan.Row.{Row}
+use Rattle.clock_sim.specs.declared.plan.Slot.{Slot}
+use Rattle.clock_sim.specs.Reading.{place_of, net_bit, HasPins, HasMemoryPins}
+use Rattle.clock_sim.specs.Plan.{stored_bit, AreRowsTo, AreSlots, HasConstants, HasRowFor, IsStartTo, KeepsPlan}
+use Rattle.clock_sim.proofs.AdvanceLemmas.{there_is, base_apart}
+
+ones_from : (n a : ℕ) → fold ◌+◌ a (replicate n 1) ≡ a + n
+ones_from zero a = omega arith
+ones_from (suc n) a = let sum : a + 1 + n ≡ a + suc n = omega arith in ones_from n (a + 1) ∙ sum
+
+ones : (n : ℕ) → sum (replicate n 1) ≡ n
+ones n = let sum : 0 + n ≡ n = omega arith in ones_from n 0 ∙ sum
+
+lut_pins : (n init count out : ℕ) → IsAllowed (Lut n init) → IsPinCount (input_widths (Lut n init)) count → HasPins (Lut n init) count out
+lut_pins n init count out allowed is = omega (arith, allowed.1, is, ones n)
+
+enough_pins : (kind : CellKind) (count outs out : ℕ) → IsAllowed kind → IsPinCount (input_widths kind) count → IsPinCount (output_widths kind) outs → out < outs → HasPins kind count out
+enough_pins (Lut n init) count outs out allowed is outputs low = lut_pins n init count out allowed is
+enough_pins Carry4 count outs out allowed is outputs low = omega (arith, outputs, low)
+enough_pins (Gate code) count outs out allowed is outputs low = tt
+enough_pins Inv count outs out allowed is outputs low = tt
+enough_pins Ibuf count outs out allowed is outputs low = tt
+enough_pins Obuf count outs out allowed is outputs low = tt
+enough_pins Bufg count outs out allowed is outputs low = tt
+enough_pins Gnd count outs out allowed is outputs low = tt
+enough_pins Vcc count outs out allowed is outputs low = tt
+enough_pins Muxf7 count outs out allowed is outputs low = tt
+enough_pins Muxf8 count outs out allowed is outputs low = tt
+enough_pins (Fdre init) count outs out allowed is outputs low = tt
+enough_pins (Fdse init) count outs out allowed is outputs low = tt
+enough_pins (Fdce init) count outs out allowed is outputs low = tt
+enough_pins (Fdpe init) count outs out allowed is outputs low = tt
+enough_pins (Mem aw dw) count outs out allowed is outputs low = tt
+
+memory_pins : (kind : CellKind) (count : ℕ) → IsAllowed kind → IsPinCount (input_widths kind) count → HasMemoryPins kind count
+memory_pins (Mem aw dw) count allowed is = (omega (arith, is), allowed.1, allowed.2)
+memory_pins (Lut n init) count allowed is = tt
+memory_pins Carry4 count allowed is = tt
+memory_pins (Gate code) count allowed is = tt
+memory_pins Inv count allowed is = tt
+memory_pins Ibuf count allowed is = tt
+memory_pins Obuf count allowed is = tt
+memory_pins Bufg count allowed is = tt
+memory_pins Gnd count allowed is = tt
+memory_pins Vcc count allowed is = tt
+memory_pins Muxf7 count allowed is = tt
+memory_pins Muxf8 count allowed is = tt
+memory_pins (Fdre init) count allowed is = tt
+memory_pins (Fdse init) count allowed is = tt
+memory_pins (Fdce init) count allowed is = tt
+memory_pins (Fdpe init) count allowed is = tt
+
+fewer_pins : (cells : List Cell) → sum_by (λ (cell : Cell). length cell.ins) cells ≤ sum_by pin_count cells
+fewer_pins [] = omega arith
+fewer_pins (cell ∷ cells) = omega (arith, fewer_pins cells, sum_by-cons (λ (cell : Cell). length cell.ins) cell cells, sum_by-cons pin_count cell cells)
+
+module _ (net : Netlist) (flat : IsFlat net) where
+  pub few_cells : length net.cells ≤ 1048576
+  few_cells = flat.formed.limits.cells
+
+  pub few_pins : sum_by (λ (cell : Cell). length cell.ins) net.cells ≤ 16777216
+  few_pins = omega (arith, fewer_pins net.cells, flat.formed.limits.pins)
+
+  pub all_allowed : (c : ℕ) (cell : Cell) → slice_get net.cells c ≡ Some cell → IsAllowed cell.kind
+  all_allowed c cell at = (flat.formed.rows c cell at).allowed
+
+  pub places_fit : (c i : ℕ) (cell : Cell) (pin : Pin) → slice_get net.cells c ≡ Some cell → slice_get cell.ins i ≡ Some pin → place_of pin < 2 ^ 32
+  places_fit c i cell (pins.Net own) at from = omega (arith, read_within (parts_of net) flat.formed c i own.0 cell (record { at = at; from = from }), flat.formed.limits.nets)
+  places_fit c i cell pins.Zero at from = omega arith
+  places_fit c i cell pins.One at from = omega arith
+
+  module _ (numbers inputs places : List ℕ) (rows : List Row) (slots : List Slot) (values stored : List Bool) (base : ℕ) (ranked : IsRanked net (slice_index numbers)) (input_each : inputs ≡ input_nets net)
+      (told : AreRowsTo net.cells (length net.cells) places rows base) (slot_each : AreSlots net (slice_index numbers) slots) (size : length values ≡ net_count net.groups + 2) (constants : HasConstants values)
+      (start : IsStartTo net.cells (length net.cells) stored) where
+    -- the cell of a row
+    cell_at : (c : ℕ) (row : Row) → slice_get rows c ≡ Some row → (cell : Cell) × (slice_get net.cells c ≡ Some cell)
+    cell_at c row at = there_is net.cells c (omega (arith, slice_get_within rows c row at, told.size))
+
+    pin_size : (c : ℕ) (cell : Cell) (row : Row) → slice_get net.cells c ≡ Some cell → slice_get rows c ≡ Some row → length (slice_range places row.first row.last) ≡ length cell.ins
+    pin_size c cell row at there = ap length (told.each c cell row at there).1 ∙ length-map cell.ins place_of
+
+    row_for : (cell : Cell) (slot : Slot) → slice_get net.cells slot.cell ≡ Some cell → slot.out < length cell.outs → HasRowFor places rows slot
+    row_for cell slot at low =
+        let own = there_is rows slot.cell (omega (arith, slice_get_within net.cells slot.cell cell at, told.size)) in
+        let own_row = flat.formed.rows slot.cell cell at in (
+          own.0,
+          own.1,
+          subst (λ (n : ℕ). HasPins own.0.kind n slot.out) (sym (pin_size slot.cell cell own.0 at own.1))
+              (subst (λ (kind : CellKind). HasPins kind (length cell.ins) slot.out) (sym (told.each slot.cell cell own.0 at own.1).0)
+              (enough_pins cell.kind (length cell.ins) (length cell.outs) slot.out own_row.allowed own_row.input_count own_row.output_count low)),
+        )
+
+    pub keeps_new : KeepsPlan net inputs places rows slots values stored
+    keeps_new = record {
+      rank = slice_index numbers;
+      plan = record {
+        flat = flat;
+        ranked = ranked;
+        size = told.size;
+        row_each = λ c cell row at there. (let own = told.each c cell row at there in record { kind = own.0; places = own.1; base = own.2 });
+        slot_each = slot_each;
+      };
+      input_each = input_each;
+      within = record {
+        ranges = λ c row at. (let own = cell_at c row at in let each = told.each c own.0 row own.1 at in (each.3, each.4));
+        bases = λ c row at. (
+            let own = cell_at c row at in let each = told.each c own.0 row own.1 at in
+            let kinds : content_size row.kind ≡ content_size own.0.kind = ap content_size each.0 in
+            omega (arith, each.2, kinds, base_apart net.cells c (length net.cells) own.0 own.1 (slice_get_within net.cells c own.0 own.1), start.size));
+        memories = λ c row at. (
+            let own = cell_at c row at in let own_row = flat.formed.rows c own.0 own.1 in
+            subst (λ (n : ℕ). HasMemoryPins row.kind n) (sym (pin_size c own.0 row own.1 at))
+            (subst (λ (kind : CellKind). HasMemoryPins kind (length own.0.ins)) (sym (told.each c own.0 row own.1 at).0) (memory_pins own.0.kind (length own.0.ins) own_row.allowed own_row.input_count)));
+      };
+      slots_within = λ j slot at. (
+          let own = slot_each.sound j slot at in
+          (omega (arith, flat.formed.outputs slot.cell own.0 slot.out slot.net own.1, size), row_for own.0 slot own.1.at (slice_get_within own.0.outs slot.out _ own.1.on)));
+      inputs_within = λ i n at. (
+          let own = filter_some _ (input_bits (parts_of net)) i n (sym (ap (λ xs. slice_get xs i) input_each) ∙ at) in
+          let from = input_of (parts_of net) flat.formed n (own.0, own.1) in
+          omega (arith, input_within (parts_of net) flat.formed n from.0 from.1 from.2 from.3, size));
+      constants = constants;
+    }
+
+    pub stands_new : StandsFor net (net_bit values) (stored_bit net.cells stored) []
+    stands_new = stands_none net (net_bit values) (stored_bit net.cells stored) (λ c cell i at within. start.bits c cell i (slice_get_within net.cells c cell at) at within)

@@ -1,0 +1,152 @@
+-- The plan of a netlist, and what settling and advancing by it do.
+use Rattle.std.specs.Prelude.{◌≡◌, ◌≢◌, ℕ, ◌+◌, ◌-◌, ◌<◌, ◌≤◌, Bool, true, false, List, [], ◌∷◌, ◌++◌, if◌then◌else◌, slice_index, Option, None, length, take, sum_by, slice_get, slice_range, Some, ◌⊎◌}
+use Rattle.net_core.specs.declared.kind.CellKind.{CellKind}
+use Rattle.net_core.specs.declared.parts.NetId.{NetId}
+use Rattle.net_core.specs.declared.parts.Cell.{Cell}
+use Rattle.net_core.specs.CellTable.{output, pin, content_size, next_content, initial}
+use Rattle.net_core.specs.Netlist.{Netlist, Drives, IsData, is_clock, input_nets}
+use Rattle.net_core.specs.WellFormed.{IsFlat}
+use Rattle.net_core.specs.Run.{input_pins}
+use Rattle.net_core.specs.Cycle.{IsRanked}
+use Rattle.clock_sim.specs.declared.plan.Row.{Row}
+use Rattle.clock_sim.specs.declared.plan.Slot.{Slot}
+use Rattle.clock_sim.specs.Reading.{bit_at_place, net_bit, places_of, HasPins, HasMemoryPins}
+
+-- the number of a cell's first stored bit: all cells' stored bits stand one after the other
+abbrev pub base_of : List Cell → ℕ → ℕ
+base_of cells c = sum_by (λ (cell : Cell). content_size cell.kind) (take c cells)
+
+-- the stored bits of each cell
+abbrev pub stored_bit : List Cell → List Bool → ℕ → ℕ → Bool
+stored_bit cells stored c i = bit_at_place stored (base_of cells c + i)
+
+-- a row tells the cell with this number
+pub record IsRow (net : Netlist) (pins : List ℕ) (c : ℕ) (cell : Cell) (row : Row) : Type 0 where
+  pub kind : row.kind ≡ cell.kind
+  pub places : slice_range pins row.first row.last ≡ places_of cell.ins
+  pub base : row.base ≡ base_of net.cells c
+
+abbrev pub AreRows : Netlist → List ℕ → List Row → Type 0
+AreRows net pins rows = (c : ℕ) (cell : Cell) (row : Row) → slice_get net.cells c ≡ Some cell → slice_get rows c ≡ Some row → IsRow net pins c cell row
+
+-- the slots are the data outputs, each once, in the order of levels
+pub record AreSlots (net : Netlist) (rank : ℕ → ℕ) (slots : List Slot) : Type 0 where
+  pub sound : (j : ℕ) (slot : Slot) → slice_get slots j ≡ Some slot → (cell : Cell) × Drives net.cells slot.cell cell slot.out slot.net × IsData net slot.net
+  pub complete : (c : ℕ) (cell : Cell) (k n : ℕ) → Drives net.cells c cell k n → IsData net n
+      → (j : ℕ) × (slot : Slot) × (slice_get slots j ≡ Some slot) × (slot.cell ≡ c) × (slot.out ≡ k) × (slot.net ≡ n)
+  pub apart : (j i : ℕ) (a b : Slot) → slice_get slots j ≡ Some a → slice_get slots i ≡ Some b → a.net ≡ b.net → j ≡ i
+  pub ordered : (j i : ℕ) (a b : Slot) → slice_get slots j ≡ Some a → slice_get slots i ≡ Some b → j ≤ i → rank a.net ≤ rank b.net
+
+pub record IsPlan (net : Netlist) (rank : ℕ → ℕ) (pins : List ℕ) (rows : List Row) (slots : List Slot) : Type 0 where
+  pub flat : IsFlat net
+  pub ranked : IsRanked net rank
+  pub size : length rows ≡ length net.cells
+  pub row_each : AreRows net pins rows
+  pub slot_each : AreSlots net rank slots
+
+-- the numbers of rows and slots stay within their lists
+pub record IsWithin (pins : List ℕ) (rows : List Row) (stored : ℕ) : Type 0 where
+  pub ranges : (c : ℕ) (row : Row) → slice_get rows c ≡ Some row → (row.first ≤ row.last) × (row.last ≤ length pins)
+  pub bases : (c : ℕ) (row : Row) → slice_get rows c ≡ Some row → row.base + content_size row.kind ≤ stored
+  pub memories : (c : ℕ) (row : Row) → slice_get rows c ≡ Some row → HasMemoryPins row.kind (length (slice_range pins row.first row.last))
+
+-- the slot's cell has a row, with the pins that its evaluation asks
+abbrev pub HasRowFor : List ℕ → List Row → Slot → Type 0
+HasRowFor pins rows slot = (row : Row) × (slice_get rows slot.cell ≡ Some row) × HasPins row.kind (length (slice_range pins row.first row.last)) slot.out
+
+abbrev pub AreWithin : List ℕ → List Row → List Slot → ℕ → Type 0
+AreWithin pins rows slots nets = (j : ℕ) (slot : Slot) → slice_get slots j ≡ Some slot → (slot.net + 2 < nets) × HasRowFor pins rows slot
+
+-- after the first slots: each of their nets has the bit of its output, and all nets that are on no output keep theirs
+pub record IsSettledTo (net : Netlist) (slots : List Slot) (stored : List Bool) (i : ℕ) (old values : List Bool) : Type 0 where
+  pub size : length values ≡ length old
+  pub zero_place : bit_at_place values 0 ≡ false
+  pub one_place : bit_at_place values 1 ≡ true
+  pub done : (j : ℕ) (slot : Slot) (cell : Cell) → j < i → slice_get slots j ≡ Some slot → slice_get net.cells slot.cell ≡ Some cell
+      → net_bit values slot.net ≡ output cell.kind (input_pins (net_bit values) cell) (stored_bit net.cells stored slot.cell) slot.out
+  pub kept : (n : ℕ) → ((j : ℕ) (slot : Slot) → slice_get slots j ≡ Some slot → slot.net ≢ n) → net_bit values n ≡ net_bit old n
+
+-- the constants stand in their places
+pub record HasConstants (values : List Bool) : Type 0 where
+  pub zero_place : bit_at_place values 0 ≡ false
+  pub one_place : bit_at_place values 1 ≡ true
+
+-- the first inputs have the bits of the row, and all places but those of inputs keep theirs
+pub record IsPlaced (inputs : List ℕ) (row : List Bool) (i : ℕ) (old values : List Bool) : Type 0 where
+  pub size : length values ≡ length old
+  pub placed : ((j k n : ℕ) → slice_get inputs j ≡ Some n → slice_get inputs k ≡ Some n → j ≡ k)
+      → (j n : ℕ) (bit : Bool) → j < i → slice_get inputs j ≡ Some n → slice_get row j ≡ Some bit → net_bit values n ≡ bit
+  pub kept : (place : ℕ) → ((j n : ℕ) → slice_get inputs j ≡ Some n → n + 2 ≢ place) → bit_at_place values place ≡ bit_at_place old place
+
+-- the stored bits of one cell are those of the next clock, and all others stay
+pub record AdvancesRow (kind : CellKind) (base : ℕ) (ins : List Bool) (old new : List Bool) : Type 0 where
+  pub size : length new ≡ length old
+  pub inside : (i : ℕ) → i < content_size kind → bit_at_place new (base + i) ≡ next_content kind ins (λ j. bit_at_place old (base + j)) i
+  pub outside : (k : ℕ) → (k < base) ⊎ (base + content_size kind ≤ k) → bit_at_place new k ≡ bit_at_place old k
+
+-- the stored bits of the first cells are those of the next clock, and those of the others stay
+pub record IsAdvancedTo (net : Netlist) (values : List Bool) (i : ℕ) (old new : List Bool) : Type 0 where
+  pub size : length new ≡ length old
+  pub next : (c : ℕ) (cell : Cell) (k : ℕ) → c < i → slice_get net.cells c ≡ Some cell → k < content_size cell.kind
+      → stored_bit net.cells new c k ≡ next_content cell.kind (input_pins (net_bit values) cell) (stored_bit net.cells old c) k
+  pub later : (k : ℕ) → base_of net.cells i ≤ k → bit_at_place new k ≡ bit_at_place old k
+
+-- the rows tell the cells of a netlist, whose nets have these bits
+pub record HasRows (net : Netlist) (values : List Bool) (pins : List ℕ) (rows : List Row) : Type 0 where
+  pub size : length rows ≡ length net.cells
+  pub row_each : AreRows net pins rows
+  pub constants : HasConstants values
+
+-- the bits of a row from its first on are those of the pins up to the last, which is the lowest
+pub record WritesRow (start last count : ℕ) (ins : List Bool) (old new : List Bool) : Type 0 where
+  pub size : length new ≡ length old
+  pub written : (b : ℕ) → b < count → bit_at_place new (start + b) ≡ pin ins (last - b)
+  pub outside : (k : ℕ) → (k < start) ⊎ (start + count ≤ k) → bit_at_place new k ≡ bit_at_place old k
+
+-- what clauses see of a plain simulator: the netlist, the bits at the places, and the stored bits of all cells
+pub record State : Type 0 where
+  pub net : Netlist
+  pub values : List Bool
+  pub stored : List Bool
+
+abbrev pub net_bits : State → ℕ → Bool
+net_bits state = net_bit state.values
+
+abbrev pub net_content : State → ℕ → ℕ → Bool
+net_content state = stored_bit state.net.cells state.stored
+
+-- what a plain simulator keeps: a plan of its netlist, by numbers that rise along dependence
+pub record KeepsPlan (net : Netlist) (inputs pins : List ℕ) (rows : List Row) (slots : List Slot) (values stored : List Bool) : Type 0 where
+  pub rank : ℕ → ℕ
+  pub plan : IsPlan net rank pins rows slots
+  pub input_each : inputs ≡ input_nets net
+  pub within : IsWithin pins rows (length stored)
+  pub slots_within : AreWithin pins rows slots (length values)
+  pub inputs_within : (i n : ℕ) → slice_get inputs i ≡ Some n → n + 2 < length values
+  pub constants : HasConstants values
+
+-- the rows of the first cells, with the places of their pins and the number of the stored bit behind their last
+pub record AreRowsTo (cells : List Cell) (i : ℕ) (places : List ℕ) (rows : List Row) (next : ℕ) : Type 0 where
+  pub size : length rows ≡ i
+  pub place_count : length places ≡ sum_by (λ (cell : Cell). length cell.ins) (take i cells)
+  pub next_base : next ≡ base_of cells i
+  pub each : (c : ℕ) (cell : Cell) (row : Row) → slice_get cells c ≡ Some cell → slice_get rows c ≡ Some row
+      → (row.kind ≡ cell.kind) × (slice_range places row.first row.last ≡ places_of cell.ins) × (row.base ≡ base_of cells c) × (row.first ≤ row.last) × (row.last ≤ length places)
+
+-- the slots of a cell's data outputs, from the output k on
+abbrev pub cell_slots : Netlist → List ℕ → ℕ → ℕ → List (Option NetId) → List Slot
+cell_slots net numbers c k [] = []
+cell_slots net numbers c k (None ∷ outs) = cell_slots net numbers c (k + 1) outs
+cell_slots net numbers c k (Some own ∷ outs) =
+    if is_clock net own.0 then cell_slots net numbers c (k + 1) outs
+    else record { level = slice_index numbers own.0; cell = c; out = k; net = own.0 } ∷ cell_slots net numbers c (k + 1) outs
+
+-- the slots of all cells, from cell c on
+abbrev pub all_slots : Netlist → List ℕ → ℕ → List Cell → List Slot
+all_slots net numbers c [] = []
+all_slots net numbers c (cell ∷ cells) = cell_slots net numbers c 0 cell.outs ++ all_slots net numbers (c + 1) cells
+
+-- the stored bits of the first cells at clock 0
+pub record IsStartTo (cells : List Cell) (i : ℕ) (stored : List Bool) : Type 0 where
+  pub size : length stored ≡ base_of cells i
+  pub bits : (c : ℕ) (cell : Cell) (k : ℕ) → c < i → slice_get cells c ≡ Some cell → k < content_size cell.kind → stored_bit cells stored c k ≡ initial cell.kind k

@@ -1,0 +1,119 @@
+ghost use Rattle.std.specs.Prelude.{◌≡◌, ℕ, ◌≤◌, ◌<◌, ◌+◌, ◌*◌, ◌^◌, length, slice_get, slice_range, Some};
+ghost use Rattle.net_core.specs.CellTable as kinds;
+ghost use Rattle.clock_sim.specs.Reading.{bit_at_place, read_all, HasMemoryPins};
+ghost use Rattle.net_core.specs.declared.kind.CellKind.TheVariants.{Mem};
+ghost use Rattle.net_core.specs.Netlist.{Netlist};
+ghost use Rattle.clock_sim.specs.Plan.{IsPlan, IsWithin, AreWithin, HasRowFor, IsSettledTo, HasConstants, IsPlaced, HasRows, AdvancesRow, WritesRow, IsAdvancedTo};
+
+use crate::evaluate::{bit_number, next_bit, output, read, row_number};
+use crate::plan::{Row, Slot};
+use net_core::CellKind;
+
+/// Gives each net of the slots the bit of its output, one slot after the other. Where the slots are the
+/// data outputs of a netlist in the order of levels, each output then has the bit that the bits of all
+/// nets make.
+pub fn settle(values: &mut Vec<bool>, pins: &[u32], rows: &[Row], slots: &[Slot], stored: &[bool])
+    requires rows { IsWithin pins.now rows.now (length stored.now) }
+    requires slots { AreWithin pins.now rows.now slots.now (length values.old.items) }
+    requires constants { HasConstants values.old.items }
+    ensures { (net : Netlist) (rank : ℕ → ℕ) → IsPlan net rank pins.now rows.now slots.now → IsSettledTo net slots.now stored.now (length slots.now) values.old.items values.new.items }
+{
+    for slot in slots {
+        let bit = slot_bit(values.as_slice(), pins, rows, slot, stored);
+        values[slot.net as usize + 2] = bit;
+    }
+}
+
+// The bit of an output, as the bits of the nets and the stored bits are now.
+fn slot_bit(values: &[bool], pins: &[u32], rows: &[Row], slot: &Slot, stored: &[bool]) -> bool
+    requires rows { IsWithin pins.now rows.now (length stored.now) }
+    requires slot { HasRowFor pins.now rows.now slot.now }
+    ensures { (row : _) → slice_get rows.now slot.now.cell ≡ Some row → result ≡ kinds.output row.kind (read_all values.now (slice_range pins.now row.first row.last)) (λ _. bit_at_place stored.now row.base) slot.now.out }
+{
+    let row = rows[slot.cell as usize];
+    let own = &pins[row.first as usize..row.last as usize];
+    let kept = bit_number(stored, row.base);
+    output(row.kind, values, own, kept, slot.out as usize)
+}
+
+/// Puts the row of bits on the nets of the inputs.
+pub fn place_inputs(values: &mut Vec<bool>, inputs: &[u32], row: &[bool])
+    requires size { length inputs.now ≡ length row.now }
+    requires within { (i n : ℕ) → slice_get inputs.now i ≡ Some n → n + 2 < length values.old.items }
+    ensures { IsPlaced inputs.now row.now (length inputs.now) values.old.items values.new.items }
+{
+    for (i, net) in inputs.iter().enumerate() {
+        values[*net as usize + 2] = row[i];
+    }
+}
+
+/// Gives each cell the stored bits of the next clock. The stored bits of the cells stand one after the
+/// other, so that no cell's are changed by another.
+pub fn advance(stored: &mut Vec<bool>, values: &[bool], pins: &[u32], rows: &[Row])
+    requires rows { IsWithin pins.now rows.now (length stored.old.items) }
+    ensures { (net : Netlist) → HasRows net values.now pins.now rows.now → IsAdvancedTo net values.now (length rows.now) stored.old.items stored.new.items }
+{
+    for row in rows {
+        let own = &pins[row.first as usize..row.last as usize];
+        advance_row(stored, values, own, row);
+    }
+}
+
+// The stored bits of one cell.
+fn advance_row(stored: &mut Vec<bool>, values: &[bool], own: &[u32], row: &Row)
+    requires base { row.now.base + kinds.content_size row.now.kind ≤ length stored.old.items }
+    requires memory { HasMemoryPins row.now.kind (length own.now) }
+    ensures { AdvancesRow row.now.kind row.now.base (read_all values.now own.now) stored.old.items stored.new.items }
+{
+    match row.kind {
+        CellKind::Mem { aw, dw } => {
+            write_memory(stored, values, own, row.base, aw as usize, dw as usize)
+        }
+        CellKind::Fdre(_) | CellKind::Fdse(_) | CellKind::Fdce(_) | CellKind::Fdpe(_) => {
+            let bit = next_bit(row.kind, values, own, stored[row.base]);
+            stored[row.base] = bit;
+        }
+        _ => {}
+    }
+}
+
+// Writes the row of a memory, where WE is 1.
+fn write_memory(
+    stored: &mut Vec<bool>,
+    values: &[bool],
+    own: &[u32],
+    base: usize,
+    aw: usize,
+    dw: usize,
+)
+    requires base { base + 2 ^ aw * dw ≤ length stored.old.items }
+    requires pins { length own.now ≡ 1 + aw + dw }
+    requires address { aw ≤ 17 }
+    requires width { 0 < dw }
+    requires small { dw < 2 ^ 16 }
+    ensures { AdvancesRow (Mem aw dw) base (read_all values.now own.now) stored.old.items stored.new.items }
+{
+    if !read(values, own, 0) {
+        return;
+    }
+    let start = base + row_number(values, &own[1..1 + aw]) as usize * dw;
+    write_row(stored, values, own, start, aw + dw, dw);
+}
+
+// Writes a row from its first bit on. The lowest bit is that of the last pin.
+fn write_row(
+    stored: &mut Vec<bool>,
+    values: &[bool],
+    own: &[u32],
+    start: usize,
+    last: usize,
+    dw: usize,
+)
+    requires room { start + dw ≤ length stored.old.items }
+    requires last { dw ≤ last }
+    ensures { WritesRow start last dw (read_all values.now own.now) stored.old.items stored.new.items }
+{
+    for bit in 0..dw {
+        stored[start + bit] = read(values, own, last - bit);
+    }
+}

@@ -1,0 +1,100 @@
+ghost use Rattle.std.specs.Prelude.{◌≡◌, ℕ, List, Bool, [], IfOk, length, slice_index};
+ghost use Rattle.net_core.specs.Netlist.{Netlist, net_count};
+ghost use Rattle.net_core.specs.Cycle.{IsRanked};
+ghost use Rattle.net_core.specs.Run.{StandsFor};
+ghost use Rattle.clock_sim.specs.Plan.{net_bits, net_content};
+
+use crate::build::{data_inputs, ordered_slots, push_rows, start_stored, start_values};
+use crate::clocking::{advance, place_inputs, settle};
+use crate::evaluate::bit_number;
+use crate::plan::{Row, Slot};
+use ila_base::NoMemory;
+use net_core::{CellId, Flat, Machine, NetId};
+use std::alloc::Global;
+use std::marker::Model;
+
+/// The plain simulator: at each clock it evaluates every output once, in the order of levels. It keeps
+/// the netlist as flat arrays of numbers, and takes all its memory when it is made.
+#[derive(Drop)]
+pub struct Plain<'a> {
+    flat: &'a Flat,
+    inputs: Vec<u32>,
+    pins: Vec<u32>,
+    rows: Vec<Row>,
+    slots: Vec<Slot>,
+    values: Vec<bool>,
+    stored: Vec<bool>,
+}
+
+impl<'a> Model for Plain<'a> {
+    ghost use Rattle.clock_sim.specs.Plan.{State, KeepsPlan};
+
+    ghost Value = { State };
+
+    ghost view = { λ plain. record { net = plain.flat.now; values = plain.values.items; stored = plain.stored.items } };
+
+    ghost invariant = { λ plain. KeepsPlan plain.flat.now plain.inputs.items plain.pins.items plain.rows.items plain.slots.items plain.values.items plain.stored.items };
+}
+
+impl<'a> Plain<'a> {
+    /// A simulator of the netlist before its first clock, by a number for each net that is above those
+    /// of all nets it depends on. It takes time linear in the net bits, cells, pins and stored bits, and
+    /// n log n in the n outputs.
+    pub fn over(alloc: Global, flat: &'a Flat, numbers: &[u32]) -> Result<Plain<'a>, NoMemory>
+        requires numbers { length numbers.now ≡ net_count flat.now.groups }
+        requires ranked { IsRanked flat.now (slice_index numbers.now) }
+        ensures netlist { IfOk result (λ plain. plain.net ≡ flat.now) }
+        ensures stands { IfOk result (λ plain. StandsFor flat.now (net_bits plain) (net_content plain) []) }
+    {
+        let inputs = data_inputs(alloc, flat)?;
+        let mut pins = Vec::new(alloc);
+        let mut rows = Vec::new(alloc);
+        push_rows(&mut pins, &mut rows, flat.cells())?;
+        let slots = ordered_slots(alloc, flat, numbers)?;
+        let values = start_values(alloc, numbers.len())?;
+        let stored = start_stored(alloc, flat.cells())?;
+        Ok(Plain {
+            flat,
+            inputs,
+            pins,
+            rows,
+            slots,
+            values,
+            stored,
+        })
+    }
+}
+
+impl<'a> Machine for Plain<'a> {
+    ghost netlist = { λ plain. plain.net };
+
+    ghost bit = { λ plain. net_bits plain };
+
+    ghost content = { λ plain. net_content plain };
+
+    fn step(&mut self, inputs: &[bool]) {
+        place_inputs(&mut self.values, self.inputs.as_slice(), inputs);
+        settle(
+            &mut self.values,
+            self.pins.as_slice(),
+            self.rows.as_slice(),
+            self.slots.as_slice(),
+            self.stored.as_slice(),
+        );
+        advance(
+            &mut self.stored,
+            self.values.as_slice(),
+            self.pins.as_slice(),
+            self.rows.as_slice(),
+        );
+    }
+
+    fn value(&self, net: NetId) -> bool {
+        bit_number(self.values.as_slice(), net.0 as usize + 2)
+    }
+
+    fn stored(&self, cell: CellId, index: u32) -> bool {
+        let base = self.rows[cell.0 as usize].base;
+        bit_number(self.stored.as_slice(), base + index as usize)
+    }
+}

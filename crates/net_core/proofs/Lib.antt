@@ -1,0 +1,13 @@
+pub mod ListLemmas
+pub mod TableLemmas
+pub mod LookupLemmas
+pub mod BitNameLemmas
+pub mod NetNameLemmas
+pub mod MarkLemmas
+pub mod SourceLemmas
+pub mod ClockLemmas
+pub mod NumberLemmas
+pub mod PartsLemmas
+pub mod DependLemmas
+pub mod RunLemmas
+pub mod InputLemmas
