@@ -1,0 +1,3 @@
+pub mod DriverLemmas
+pub mod SourceLemmas
+pub mod SettleLemmas
