@@ -1,12 +1,11 @@
 -- The nodes of a path that closes, the last first, are a cycle, and turned it is one.
-use Rattle.std.proofs.Common.{◌≡◌, ℕ, zero, suc, ◌+◌, ◌-◌, ◌<◌, ◌≤◌, List, [], ◌∷◌, ◌++◌, length, map, reverse, take, drop, slice_get, slice_index, Option, Some, None, refl, ap, sym, ◌∙◌, subst, arith, ◌⊎◌, inl, inr, get_or, length-drop}
+use Rattle.std.proofs.Common.{◌≡◌, ℕ, ◌+◌, ◌-◌, ◌<◌, ◌≤◌, List, ◌++◌, length, map, reverse, take, drop, slice_get, slice_index, Option, Some, None, refl, ap, sym, ◌∙◌, subst, arith, ◌⊎◌, inl, inr, get_or, length-drop}
 use Rattle.std.specs.Option.{option_map}
-use Rattle.std.proofs.lemmas.List.{length-append, length-map, length-reverse, length-take, take_all, get_or-reverse, get_or-drop, get_or-take, get_or_append_left, get_or-append-add, get_or_default}
+use Rattle.std.proofs.lemmas.List.{length-append, length-map, length-reverse, length-take, take_all, get_or-reverse, get_or-drop, get_or-take, get_or_append_left, get_or-append-add}
 use Rattle.std.proofs.Math.Seq.{take-append_seam}
 use Rattle.std.proofs.lemmas.Bool.{cases_lt}
 use Rattle.std.proofs.lemmas.Option.{slice_get_within, get_or_from_slice_get, slice_get-get_or, slice_get-map, same_Some}
 use Rattle.net_graph.specs.declared.search.Visit.{Visit}
-use Rattle.net_graph.specs.declared.search.Visit.TheVariants.{Open}
 use Rattle.net_graph.specs.declared.search.Step.{Step}
 use Rattle.net_graph.specs.Rows.{RowHas}
 use Rattle.net_graph.specs.Graph.{IsCycle, AllDiffer, BeginsLeast}
@@ -46,18 +45,18 @@ pub path_cycle : (starts sources : List ℕ) (visits : List Visit) (path : List 
 path_cycle starts sources visits path found m place step search closes at is = record {
   nonempty = omega (arith, length_nodes path place, slice_get_within path place step at);
   distinct = λ i j x here there.
-    let a = nodes_at path place i x here in let b = nodes_at path place j x there in
-    omega (arith, a.3, b.3, search.once a.0 b.0 a.1 b.1 a.4 b.4 (a.5 ∙ sym b.5));
+      let a = nodes_at path place i x here in let b = nodes_at path place j x there in
+      omega (arith, a.3, b.3, search.once a.0 b.0 a.1 b.1 a.4 b.4 (a.5 ∙ sym b.5));
   next = λ i k n here there.
-    let a = nodes_at path place i k here in let b = nodes_at path place (i + 1) n there in
-    let e : b.0 + 1 ≡ a.0 = omega (arith, a.3, b.3) in
-    both a.1 b.1 k n a.5 b.5 (search.linked b.0 b.1 a.1 b.4 (ap (slice_get path) e ∙ a.4));
+      let a = nodes_at path place i k here in let b = nodes_at path place (i + 1) n there in
+      let e : b.0 + 1 ≡ a.0 = omega (arith, a.3, b.3) in
+      both a.1 b.1 k n a.5 b.5 (search.linked b.0 b.1 a.1 b.4 (ap (slice_get path) e ∙ a.4));
   first = λ i k n last here there.
-    let a = nodes_at path place i k here in let b = nodes_at path place 0 n there in
-    let e : a.0 ≡ place = omega (arith, a.3, last, length_nodes path place, a.2, slice_get_within path place step at) in
-    let s : a.1 ≡ step = same_Some _ _ (sym a.4 ∙ ap (slice_get path) e ∙ at) in
-    let k_is : m ≡ k = sym is ∙ ap (λ (u : Step). u.node) (sym s) ∙ a.5 in
-    subst (λ (u : ℕ). RowHas starts sources u n) k_is (subst (λ (u : ℕ). RowHas starts sources m u) b.5 (closes.1 b.0 b.1 b.4 (omega (arith, b.3))));
+      let a = nodes_at path place i k here in let b = nodes_at path place 0 n there in
+      let e : a.0 ≡ place = omega (arith, a.3, last, length_nodes path place, a.2, slice_get_within path place step at) in
+      let s : a.1 ≡ step = same_Some _ _ (sym a.4 ∙ ap (slice_get path) e ∙ at) in
+      let k_is : m ≡ k = sym is ∙ ap (λ (u : Step). u.node) (sym s) ∙ a.5 in
+      subst (λ (u : ℕ). RowHas starts sources u n) k_is (subst (λ (u : ℕ). RowHas starts sources m u) b.5 (closes.1 b.0 b.1 b.4 (omega (arith, b.3))));
 }
   where
     both : (s t : Step) (k n : ℕ) → s.node ≡ k → t.node ≡ n → RowHas starts sources s.node t.node → RowHas starts sources k n
@@ -78,10 +77,12 @@ module _ (nodes : List ℕ) (k : ℕ) (within : k < length nodes) where
     | inr high ↦ (
         let j : ℕ = i - (length nodes - k) in
         let less : i < length nodes = omega (arith, slice_get_within turned i x at, length_turned) in
-        let e : i ≡ length (drop k nodes) + (i - (length nodes - k)) = omega (arith, high, length-drop k nodes) in
-        (i - (length nodes - k), moved turned nodes i (i - (length nodes - k)) x at (omega (arith, less, high))
-        (ap (λ u. get_or turned u x) e ∙ get_or-append-add (drop k nodes) (take k nodes) (i - (length nodes - k)) x ∙ get_or-take k nodes (i - (length nodes - k)) x (omega (arith, less, high, within))),
-        inr (omega (arith, high, within), omega (arith, less, high, within))))
+        let e : i ≡ length (drop k nodes) + (i - (length nodes - k)) = omega (arith, high, length-drop k nodes) in (
+          i - (length nodes - k),
+          moved turned nodes i (i - (length nodes - k)) x at (omega (arith, less, high))
+              (ap (λ u. get_or turned u x) e ∙ get_or-append-add (drop k nodes) (take k nodes) (i - (length nodes - k)) x ∙ get_or-take k nodes (i - (length nodes - k)) x (omega (arith, less, high, within))),
+          inr (omega (arith, high, within), omega (arith, less, high, within)),
+        ))
   ]
 
   module _ (leads : ℕ → ℕ → Type 0) (cycle : IsCycle leads nodes) where
@@ -132,9 +133,10 @@ pub loop_is_cycle : (starts sources : List ℕ) (visits : List Visit) (path : Li
     → IsSearch starts sources visits path found → ClosesAt starts sources visits path m → IsLoopAt path m nodes
     → IsCycle (RowHas starts sources) nodes × BeginsLeast nodes
 loop_is_cycle starts sources visits path found m nodes search closes loop =
-    let own = path_cycle starts sources visits path found m loop.place loop.step search closes loop.at loop.is in
-    (subst (λ (xs : List ℕ). IsCycle (RowHas starts sources) xs) (sym loop.turned) (turned_cycle (nodes_from path loop.place) loop.turn loop.within (RowHas starts sources) own),
-    subst (λ (xs : List ℕ). BeginsLeast xs) (sym loop.turned) (turned_least (nodes_from path loop.place) loop.turn loop.within loop.least))
+    let own = path_cycle starts sources visits path found m loop.place loop.step search closes loop.at loop.is in (
+      subst (λ (xs : List ℕ). IsCycle (RowHas starts sources) xs) (sym loop.turned) (turned_cycle (nodes_from path loop.place) loop.turn loop.within (RowHas starts sources) own),
+      subst (λ (xs : List ℕ). BeginsLeast xs) (sym loop.turned) (turned_least (nodes_from path loop.place) loop.turn loop.within loop.least),
+    )
 
 -- what the code makes of the path is the loop
 pub loop_made : (path : List Step) (m place turn n : ℕ) (step : Step) (back nodes out : List ℕ) → slice_get path place ≡ Some step → step.node ≡ m

@@ -1,10 +1,10 @@
 -- How the search begins, and the numbers that it leaves where it ends with no new node and no path.
-use Rattle.std.proofs.Common.{◌≡◌, ℕ, zero, suc, ◌+◌, ◌-◌, ◌*◌, ◌<◌, ◌≤◌, List, [], ◌∷◌, length, map, slice_get, slice_index, Option, Some, None, refl, ap, sym, ◌∙◌, subst, arith, ◌⊎◌, inl, inr, get_or, sum_by, replicate}
+use Rattle.std.proofs.Common.{◌≡◌, ℕ, zero, suc, ◌+◌, ◌-◌, ◌<◌, List, [], length, map, slice_get, slice_index, Some, ap, sym, ◌∙◌, subst, arith, inl, inr, get_or, replicate}
 use Rattle.std.specs.Option.{option_map}
 use Rattle.std.proofs.lemmas.List.{length-replicate, length-map, get_or_past}
 use Rattle.std.proofs.lemmas.Bool.{cases_lt}
 use Rattle.std.proofs.lemmas.List.Folds.{sum_by-replicate}
-use Rattle.std.proofs.lemmas.Option.{slice_get_within, get_or_from_slice_get, slice_get-get_or, slice_get-map}
+use Rattle.std.proofs.lemmas.Option.{get_or_from_slice_get, slice_get-get_or, slice_get-map}
 use Rattle.net_graph.specs.declared.search.Visit.{Visit}
 use Rattle.net_graph.specs.declared.search.Visit.TheVariants.{New, Open, Done}
 use Rattle.net_graph.specs.declared.search.Step.{Step}
@@ -61,6 +61,7 @@ pub numbers_order : (starts sources : List ℕ) (visits : List Visit) (path : Li
     → IsSearch starts sources visits path found → path ≡ [] → ((n : ℕ) → slice_get visits n ≡ Some New → ⊥) → out ≡ map number_of visits
     → (length out ≡ length starts - 1) × IsRanked (RowHas starts sources) (slice_index out)
 numbers_order starts sources visits path found out search empty seen is =
-    let own : IsSearch starts sources visits [] found = subst (λ (p : List Step). IsSearch starts sources visits p found) empty search in
-    (omega (arith, ap length is, length-map visits number_of, search.size),
-    subst (λ (xs : List ℕ). IsRanked (RowHas starts sources) (slice_index xs)) (sym is) (numbers_rise starts sources visits found own seen))
+    let own : IsSearch starts sources visits [] found = subst (λ (p : List Step). IsSearch starts sources visits p found) empty search in (
+      omega (arith, ap length is, length-map visits number_of, search.size),
+      subst (λ (xs : List ℕ). IsRanked (RowHas starts sources) (slice_index xs)) (sym is) (numbers_rise starts sources visits found own seen),
+    )

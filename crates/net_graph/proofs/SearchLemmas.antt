@@ -1,5 +1,5 @@
 -- What one turn of the search does to its path and its visits.
-use Rattle.std.proofs.Common.{◌≡◌, ◌≢◌, ℕ, zero, suc, ◌+◌, ◌-◌, ◌*◌, ◌<◌, ◌≤◌, List, [], ◌∷◌, ◌++◌, length, slice_get, slice_index, Option, Some, None, refl, ap, sym, ◌∙◌, subst, arith, ◌⊎◌, inl, inr, get_or, sum_by}
+use Rattle.std.proofs.Common.{◌≡◌, ◌≢◌, ℕ, ◌+◌, ◌-◌, ◌<◌, ◌≤◌, List, [], ◌∷◌, ◌++◌, length, slice_get, slice_index, Some, refl, ap, sym, ◌∙◌, subst, arith, ◌⊎◌, inl, inr}
 use Rattle.std.proofs.Math.ListN.{set}
 use Rattle.std.proofs.lemmas.List.{length-append, length-set}
 use Rattle.std.proofs.lemmas.Bool.{cases_eq}
@@ -9,7 +9,7 @@ use Rattle.net_graph.specs.declared.search.Visit.{Visit}
 use Rattle.net_graph.specs.declared.search.Visit.TheVariants.{New, Open, Done}
 use Rattle.net_graph.specs.declared.search.Step.{Step}
 use Rattle.net_graph.specs.Rows.{RowHas, AreRows}
-use Rattle.net_graph.specs.Search.{IsSearch, IsDone, IsLooked, KeepsSeen, ClosesAt, new_one, work}
+use Rattle.net_graph.specs.Search.{IsSearch, IsDone, IsLooked, KeepsSeen, new_one, work}
 use Rattle.net_graph.proofs.ListLemmas.{slice_get_set_same, slice_get_set_other, slice_get_left, slice_get_last, slice_get_pushed}
 
 -- the last step goes on to its next edge
@@ -47,8 +47,8 @@ module _ (starts sources : List ℕ) (visits : List Visit) (rest : List Step) (s
     once = λ i j t u here there same. let a = old_step i t here in let b = old_step j u there in search.once i j a.0 b.0 a.1 b.1 (a.2 ∙ same ∙ sym b.2);
     on_path = on_path;
     linked = λ i t u here there.
-      let a = old_step i t here in let b = old_step (i + 1) u there in
-      subst (λ (k : ℕ). RowHas starts sources k t.node) b.2 (subst (λ (k : ℕ). RowHas starts sources b.0.node k) a.2 (search.linked i a.0 b.0 a.1 b.1));
+        let a = old_step i t here in let b = old_step (i + 1) u there in
+        subst (λ (k : ℕ). RowHas starts sources k t.node) b.2 (subst (λ (k : ℕ). RowHas starts sources b.0.node k) a.2 (search.linked i a.0 b.0 a.1 b.1));
     within = λ i t at. elim (moved_from i t at) [
       | inl same ↦ search.within i t same
       | inr other ↦ subst (λ (u : Step). (slice_index starts u.node ≤ u.next) × (u.next ≤ slice_index starts (u.node + 1))) other.1
@@ -131,13 +131,13 @@ module _ (starts sources : List ℕ) (visits : List Visit) (path : List Step) (f
       once : (i j : ℕ) (s t : Step) → slice_get (path ++ first ∷ []) i ≡ Some s → slice_get (path ++ first ∷ []) j ≡ Some t → s.node ≡ t.node → i ≡ j
       once i j s t here there same = elim (slice_get_pushed path first i s here) [
         | inl left ↦ elim (slice_get_pushed path first j t there) [
-            | inl right ↦ search.once i j s t left right same
-            | inr last ↦ absurd (open_apart i s left (same ∙ ap (λ (u : Step). u.node) (sym last.1)))
-          ]
+          | inl right ↦ search.once i j s t left right same
+          | inr last ↦ absurd (open_apart i s left (same ∙ ap (λ (u : Step). u.node) (sym last.1)))
+        ]
         | inr one ↦ elim (slice_get_pushed path first j t there) [
-            | inl right ↦ absurd (open_apart j t right (sym same ∙ ap (λ (u : Step). u.node) (sym one.1)))
-            | inr last ↦ one.0 ∙ sym last.0
-          ]
+          | inl right ↦ absurd (open_apart j t right (sym same ∙ ap (λ (u : Step). u.node) (sym one.1)))
+          | inr last ↦ one.0 ∙ sym last.0
+        ]
       ]
 
       on_path : (n : ℕ) → slice_get (set visits m Open) n ≡ Some Open → (i : ℕ) × (t : Step) × (slice_get (path ++ first ∷ []) i ≡ Some t) × (t.node ≡ n)
@@ -151,9 +151,9 @@ module _ (starts sources : List ℕ) (visits : List Visit) (path : List Step) (f
       linked : (i : ℕ) (s t : Step) → slice_get (path ++ first ∷ []) i ≡ Some s → slice_get (path ++ first ∷ []) (i + 1) ≡ Some t → RowHas starts sources t.node s.node
       linked i s t here there = elim (slice_get_pushed path first i s here) [
         | inl left ↦ elim (slice_get_pushed path first (i + 1) t there) [
-            | inl right ↦ search.linked i s t left right
-            | inr last ↦ subst (λ (u : Step). RowHas starts sources u.node s.node) last.1 (leads i s left last.0)
-          ]
+          | inl right ↦ search.linked i s t left right
+          | inr last ↦ subst (λ (u : Step). RowHas starts sources u.node s.node) last.1 (leads i s left last.0)
+        ]
         | inr one ↦ absurd (omega (arith, one.0, slice_get_within (path ++ first ∷ []) (i + 1) t there, length-append path (first ∷ [])))
       ]
 
@@ -202,7 +202,7 @@ module _ (starts sources : List ℕ) (visits : List Visit) (rest : List Step) (s
     linked = λ i t u here there. search.linked i t u (slice_get_left rest (s ∷ []) i t here) (slice_get_left rest (s ∷ []) (i + 1) u there);
     within = λ i t at. search.within i t (slice_get_left rest (s ∷ []) i t at);
     looked = λ i t at place n begins ends on.
-      let old = search.looked i t (slice_get_left rest (s ∷ []) i t at) place n begins ends on in (old.0, kept_done n old.0 old.1);
+        let old = search.looked i t (slice_get_left rest (s ∷ []) i t at) place n begins ends on in (old.0, kept_done n old.0 old.1);
     below = below;
     low = low;
     counted = omega (arith, search.counted, length-append rest (s ∷ []), length-set visits s.node (Done found), sum_by-set new_one visits s.node (Done found) Open s_low, ap new_one (get_or_from_slice_get visits s.node Open Open s_open));
@@ -229,7 +229,7 @@ module _ (starts sources : List ℕ) (visits : List Visit) (rest : List Step) (s
       below n m number at row = elim (cases_eq n s.node) [
         | inl is ↦ (
             let old = search.looked (length rest) s last_at row.place m (subst (λ (k : ℕ). slice_index starts k ≤ row.place) is row.begins)
-                (omega (arith, over, subst (λ (k : ℕ). row.place < slice_index starts (k + 1)) is row.ends)) row.is in
+            (omega (arith, over, subst (λ (k : ℕ). row.place < slice_index starts (k + 1)) is row.ends)) row.is in
             (old.0, kept_done m old.0 old.1, omega (arith, is_found n number at is, search.low m old.0 old.1)))
         | inr differ ↦ (
             let old = search.below n m number (same_before n (Done number) at differ) row in

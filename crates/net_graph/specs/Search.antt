@@ -1,6 +1,6 @@
 -- The search backwards along the edges: a path of open nodes, each of which leads to the one before it on the path, and done
 -- nodes, to which done nodes with lower numbers alone lead.
-use Rattle.std.specs.Prelude.{◌≡◌, ℕ, ◌+◌, ◌*◌, ◌-◌, ◌<◌, ◌≤◌, List, [], ◌∷◌, ◌++◌, sum_by, map, reverse, take, drop, length, slice_get, slice_index, Option, Some, None, IfSome}
+use Rattle.std.specs.Prelude.{◌≡◌, ℕ, ◌+◌, ◌*◌, ◌-◌, ◌<◌, ◌≤◌, List, ◌++◌, sum_by, map, reverse, take, drop, length, slice_get, slice_index, Some}
 use Rattle.net_graph.specs.declared.search.Visit.{Visit}
 use Rattle.net_graph.specs.declared.search.Visit.TheVariants.{New, Open, Done}
 use Rattle.net_graph.specs.declared.search.Step.{Step}

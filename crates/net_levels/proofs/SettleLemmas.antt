@@ -1,15 +1,14 @@
 -- The one run of a netlist with ranks: the bits at a clock by recursion on the rank, the stored bits clock by clock.
-use Rattle.std.proofs.Common.{◌≡◌, ◌≢◌, ℕ, zero, suc, ◌+◌, ◌-◌, ◌<◌, ◌≤◌, Bool, true, false, not, List, [], ◌∷◌, ◌++◌, map, length, take, slice_get, slice_index_or, Option, Some, None, refl, ap, sym, ◌∙◌, subst, arith, inl, inr, ◌⊎◌, get_or}
+use Rattle.std.proofs.Common.{◌≡◌, ℕ, zero, suc, ◌+◌, ◌<◌, ◌≤◌, Bool, true, false, not, List, [], ◌∷◌, ◌++◌, map, length, take, slice_get, slice_index_or, Option, Some, None, refl, ap, sym, ◌∙◌, subst, arith, inl, inr, ◌⊎◌, get_or}
 use Rattle.std.specs.Option.{option_map, option_map_or}
 use Rattle.std.proofs.lemmas.List.{take_more, take_all, length-map}
-use Rattle.std.proofs.lemmas.Option.{slice_get-map, slice_get_within, slice_get-get_or, get_or_from_slice_get, same_Some}
-use Rattle.net_core.specs.declared.parts.Pin.TheVariants as pins
+use Rattle.std.proofs.lemmas.Option.{slice_get-map, slice_get-get_or, get_or_from_slice_get, same_Some}
 use Rattle.net_core.specs.declared.parts.Cell.{Cell}
-use Rattle.net_core.specs.CellTable.{output, depends, content_size, initial, next_content}
+use Rattle.net_core.specs.CellTable.{output, initial, next_content}
 use Rattle.net_core.specs.Netlist.{Netlist, parts_of, Drives, Reads, HasDriver, IsIn, IsData, is_clock, is_driven, input_nets, input_bits}
 use Rattle.net_core.specs.WellFormed.{IsFlat, Each}
-use Rattle.net_core.specs.Run.{History, pin_bit, input_pins, IsSettled, IsStart, IsNext, IsRun, SameBits, SameContent, StandsFor, IsOneRun}
-use Rattle.net_core.specs.Cycle.{IsRanked, IsCycle, Feeds}
+use Rattle.net_core.specs.Run.{input_pins, IsSettled, IsStart, IsNext, StandsFor, IsOneRun}
+use Rattle.net_core.specs.Cycle.{IsRanked}
 use Rattle.net_core.proofs.PartsLemmas.{filter_some}
 use Rattle.net_core.proofs.DependLemmas.{output_same}
 use Rattle.net_core.proofs.InputLemmas.{inputs_differ}
@@ -159,11 +158,13 @@ module _ (net : Netlist) (flat : IsFlat net) (rank : ℕ → ℕ) (ranked : IsRa
       let before = stands_for rows fit k (omega (arith, low)) in
       let row = get_or rows k [] in
       let at : slice_get rows k ≡ Some (get_or rows k []) = slice_get-get_or rows k [] (omega (arith, low)) in
-      let more : take (suc k) rows ≡ take k rows ++ get_or rows k [] ∷ [] = (let e : suc k ≡ k + 1 = omega arith in ap (λ j. take j rows) e) ∙ take_more rows k [] (omega (arith, low)) in
-      (settled_bit (get_or rows k []) before.1, stored_next (settled_bit (get_or rows k []) before.1) before.1,
-      subst (λ (own : List (List Bool)). StandsFor net (settled_bit (get_or rows k []) before.1) (stored_next (settled_bit (get_or rows k []) before.1) before.1) own) (sym more)
-      (stands_next net flat rank ranked before.0 before.1 (take k rows) (get_or rows k []) (settled_bit (get_or rows k []) before.1) (stored_next (settled_bit (get_or rows k []) before.1) before.1)
-      before.2 (settles (get_or rows k []) before.1 (fit k (get_or rows k []) at)) (next_is (settled_bit (get_or rows k []) before.1) before.1)))
+      let more : take (suc k) rows ≡ take k rows ++ get_or rows k [] ∷ [] = (let e : suc k ≡ k + 1 = omega arith in ap (λ j. take j rows) e) ∙ take_more rows k [] (omega (arith, low)) in (
+        settled_bit (get_or rows k []) before.1,
+        stored_next (settled_bit (get_or rows k []) before.1) before.1,
+        subst (λ (own : List (List Bool)). StandsFor net (settled_bit (get_or rows k []) before.1) (stored_next (settled_bit (get_or rows k []) before.1) before.1) own) (sym more)
+            (stands_next net flat rank ranked before.0 before.1 (take k rows) (get_or rows k []) (settled_bit (get_or rows k []) before.1) (stored_next (settled_bit (get_or rows k []) before.1) before.1)
+            before.2 (settles (get_or rows k []) before.1 (fit k (get_or rows k []) at)) (next_is (settled_bit (get_or rows k []) before.1) before.1)),
+      )
 
   pub one_run : HasOneRun net
   one_run rows fit =

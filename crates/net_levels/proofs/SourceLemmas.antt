@@ -1,14 +1,13 @@
 -- The rows of nets on which nets depend.
-use Rattle.std.proofs.Common.{◌≡◌, ℕ, zero, suc, ◌+◌, ◌<◌, ◌≤◌, ◌^◌, true, false, List, [], ◌∷◌, ◌++◌, length, slice_get, slice_index, Option, Some, None, refl, ap, sym, ◌∙◌, subst, arith, inl, inr, ◌⊎◌, ◌↔◌, get_or, append_assoc, Result, Ok, Err, OnOk}
+use Rattle.std.proofs.Common.{◌≡◌, ℕ, zero, suc, ◌+◌, ◌<◌, ◌≤◌, true, false, List, [], ◌∷◌, ◌++◌, length, slice_get, slice_index, Option, Some, None, refl, ap, sym, ◌∙◌, subst, arith, inl, inr, ◌↔◌, append_assoc, Result, Ok, Err, OnOk}
 use Rattle.std.proofs.lemmas.List.{length-append, get_or_append_left, get_or_push, append-nil, get_or_past}
 use Rattle.std.proofs.lemmas.Bool.{cases_eq, cases_lt}
 use Rattle.std.proofs.lemmas.Option.{slice_get_within, same_Some}
 use Rattle.net_core.specs.declared.parts.NetId.{NetId}
-use Rattle.net_core.specs.declared.parts.Pin.{Pin}
 use Rattle.net_core.specs.declared.parts.Pin.TheVariants as pins
 use Rattle.net_core.specs.declared.parts.Cell.{Cell}
 use Rattle.net_core.specs.CellTable.{depends}
-use Rattle.net_core.specs.Netlist.{Netlist, Drives, Reads, IsIn, IsData, is_clock, is_driven, net_count}
+use Rattle.net_core.specs.Netlist.{Netlist, Drives, IsIn, IsData, is_clock, is_driven, net_count}
 use Rattle.net_core.specs.WellFormed.{IsFlat}
 use Rattle.net_core.specs.Cycle.{Feeds}
 use Rattle.net_core.proofs.ListLemmas.{slice_get_append, slice_get_left, slice_get_right}

@@ -1,10 +1,10 @@
 -- Which output pin drives a net, and the nets on which an output pin depends, as the tables that the code makes.
-use Rattle.std.specs.Prelude.{◌≡◌, ℕ, ◌+◌, ◌<◌, true, List, ◌++◌, length, slice_get, Option, Some, ◌⊎◌, ◌↔◌}
+use Rattle.std.specs.Prelude.{◌≡◌, ℕ, ◌<◌, true, List, ◌++◌, length, slice_get, Option, Some, ◌⊎◌, ◌↔◌}
 use Rattle.net_core.specs.declared.parts.NetId.{NetId}
 use Rattle.net_core.specs.declared.parts.Pin.TheVariants as pins
 use Rattle.net_core.specs.declared.parts.Cell.{Cell}
 use Rattle.net_core.specs.CellTable.{depends}
-use Rattle.net_core.specs.Netlist.{Netlist, Drives, IsIn}
+use Rattle.net_core.specs.Netlist.{Drives, IsIn}
 use Rattle.net_levels.specs.declared.drivers.Output.{Output}
 
 -- output pin k is on net n

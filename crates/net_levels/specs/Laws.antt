@@ -1,5 +1,5 @@
 -- A netlist whose nets have rising numbers has no combinational cycle.
-use Rattle.std.specs.Prelude.{◌≡◌, ℕ}
+use Rattle.std.specs.Prelude.{ℕ}
 use Rattle.net_core.specs.Netlist.{Netlist}
 use Rattle.net_core.specs.Cycle.{IsRanked, HasCycle, Feeds}
 use Rattle.net_graph.specs.Laws as graph

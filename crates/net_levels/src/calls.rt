@@ -24,8 +24,11 @@ fn count_nets(groups: &[Group]) -> usize
 fn nets_of(alloc: Global, nodes: &[u32]) -> Result<Items<NetId>, NoMemory>
     ensures { IfOk result (λ nets. numbers nets ≡ nodes.now) }
 {
-    let nets = nodes.iter().map(|node| NetId(*node)).collect(alloc)?;
-    Ok(Items::from_vec(nets))
+    let mut nets = Items::new(alloc);
+    for node in nodes {
+        nets.push(NetId(*node))?;
+    }
+    Ok(nets)
 }
 
 /// The level numbers of a flat netlist, or a combinational cycle where it has one. An output depends

@@ -2,6 +2,7 @@ ghost use Rattle.std.specs.Prelude.{◌≡◌, ℕ, ◌+◌, ◌<◌, ◌^◌, �
 ghost use Rattle.net_core.specs.declared.parts.Pin.TheVariants as pins;
 ghost use Rattle.net_core.specs.CellTable as table;
 ghost use Rattle.net_core.specs.Netlist.{net_count};
+ghost use Rattle.net_core.specs.WellFormed.{IsFlat};
 ghost use Rattle.net_core.specs.Cycle.{Feeds};
 ghost use Rattle.net_graph.specs.Graph.{Leads, node_count};
 ghost use Rattle.net_levels.specs.Drivers.{IsNeeded, Adds, AreDrivers};
@@ -64,11 +65,8 @@ fn add_sources(
 
 /// The graph of the nets, in which each data net on an output pin has an edge from each net on which
 /// the output depends.
-pub fn graph_of(
-    alloc: Global,
-    flat: &Flat,
-    drivers: &[Option<Output>],
-) -> Result<Graph, NoMemory>
+pub fn graph_of(alloc: Global, flat: &Flat, drivers: &[Option<Output>]) -> Result<Graph, NoMemory>
+    requires kept { IsFlat flat.now }
     requires few { length drivers.now ≡ net_count flat.now.groups }
     requires named { AreDrivers flat.now.cells (length flat.now.cells) drivers.now }
     ensures size { IfOk result (λ graph. node_count graph ≡ net_count flat.now.groups) }

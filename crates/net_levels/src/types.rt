@@ -47,6 +47,11 @@ pub enum LevelFault {
 }
 
 impl From<NoMemory> for LevelFault {
+    ghost use Rattle.std.specs.Prelude.{◌≡◌};
+    ghost use Rattle.net_levels.specs.declared.types.LevelFault.TheVariants as faults;
+
+    ghost from_gives = { λ _ fault. fault ≡ faults.NoMemory };
+
     fn from(_failed: NoMemory) -> LevelFault {
         LevelFault::NoMemory
     }

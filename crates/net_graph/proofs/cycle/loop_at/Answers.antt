@@ -1,4 +1,4 @@
-use Rattle.std.proofs.Common.{◌≡◌, ◌++◌, ◌<◌, ◌≤◌, ℕ, List, length, slice_index, drop, take, refl, ap, sym, ◌∙◌, subst, arith}
+use Rattle.std.proofs.Common.{◌≡◌, ◌++◌, ◌≤◌, ℕ, List, length, slice_index, drop, take, refl, ap, ◌∙◌, subst, arith}
 use Rattle.net_graph.proofs.CycleLemmas.{loop_made}
 use Rattle.net_graph.proofs.cycle.loop_at.Goals as goal
 

@@ -1,4 +1,4 @@
-use Rattle.std.proofs.Common.{◌≡◌, ◌∙◌, ap, sym, subst, List}
+use Rattle.std.proofs.Common.{subst, List}
 use Rattle.net_graph.specs.declared.search.Step.{Step}
 use Rattle.net_graph.specs.Search.{IsLoopAt}
 use Rattle.net_graph.proofs.CycleLemmas.{loop_is_cycle}

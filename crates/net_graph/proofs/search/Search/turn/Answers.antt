@@ -1,7 +1,7 @@
-use Rattle.std.proofs.Common.{◌≡◌, ◌++◌, ◌∷◌, [], ◌<◌, ◌+◌, refl, ap, sym, ◌∙◌, arith, length, slice_get, Some}
+use Rattle.std.proofs.Common.{refl, arith, length}
 use Rattle.std.proofs.lemmas.Option.{slice_get_read}
 use Rattle.net_graph.specs.declared.search.Visit.TheVariants.{New, Open, Done}
-use Rattle.net_graph.proofs.SearchLemmas.{search_moved, work_moved, search_done, seen_done, work_done, last_node_low, last_in_sources, source_low, leads_last}
+use Rattle.net_graph.proofs.SearchLemmas.{search_moved, search_done, seen_done, work_done, last_node_low, last_in_sources, source_low, leads_last}
 use Rattle.net_graph.proofs.search.Search.turn.Goals as goal
 
 pub source_at-requires : goal.source_at-requires
@@ -36,11 +36,12 @@ returns-in-None-clause-cases c =
     (last_in_sources c.args.graph.now.starts.items c.args.graph.now.sources.items c.args.self.now.visits.items c.args.self.now.path.items c.args.step c.args.self.now.found c.requires c.args.graph.now.rows)
 
 pub returns-in_ok-push-in-Open-clause-cases : goal.returns-in_ok-push-in-Open-clause-cases
-returns-in_ok-push-in-Open-clause-cases c =
-    (slice_get_read c.args.self.now.visits.items (length c.args.self.now.visits.items) c.in-Some.source Open refl
-    (source_low c.args.graph.now.starts.items c.args.graph.now.sources.items c.args.self.now.visits.items c.args.self.now.path.items c.args.step c.args.self.now.found c.requires c.args.graph.now.rows c.in-Some.source c.in-Some.ensures.found.1) (rw c.in-Open.is at c.index.ensures),
-    rw c.in_ok-push-in-Open.ensures.items
-    (leads_last c.args.graph.now.starts.items c.args.graph.now.sources.items c.args.self.now.visits.items c.args.self.now.path.items c.args.step c.args.self.now.found c.requires c.args.graph.now.rows c.in-Some.source c.in-Some.ensures.found.1 c.in-Some.ensures.found.0))
+returns-in_ok-push-in-Open-clause-cases c = (
+  slice_get_read c.args.self.now.visits.items (length c.args.self.now.visits.items) c.in-Some.source Open refl
+      (source_low c.args.graph.now.starts.items c.args.graph.now.sources.items c.args.self.now.visits.items c.args.self.now.path.items c.args.step c.args.self.now.found c.requires c.args.graph.now.rows c.in-Some.source c.in-Some.ensures.found.1) (rw c.in-Open.is at c.index.ensures),
+  rw c.in_ok-push-in-Open.ensures.items
+      (leads_last c.args.graph.now.starts.items c.args.graph.now.sources.items c.args.self.now.visits.items c.args.self.now.path.items c.args.step c.args.self.now.found c.requires c.args.graph.now.rows c.in-Some.source c.in-Some.ensures.found.1 c.in-Some.ensures.found.0),
+)
 
 pub returns-in_ok-push-in-Done-clause-search : goal.returns-in_ok-push-in-Done-clause-search
 returns-in_ok-push-in-Done-clause-search c =
