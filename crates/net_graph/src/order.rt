@@ -82,3 +82,55 @@ pub fn ranks(alloc: Global, graph: &Graph) -> Result<Order, NoMemory>
         None => Ok(Order::Ranked(numbers(alloc, search.visits.as_slice())?)),
     }
 }
+
+#[cfg(test)]
+mod tests {
+    use super::*;
+    use std::test::Fail;
+
+    // The order of the nodes of a graph, each with the row of those that lead to it.
+    fn order_of(rt: &HostRuntime, starts: &[usize], sources: &[u32]) -> Result<Order, Fail> {
+        let starts = starts.to_vec(rt.alloc())?;
+        let sources = sources.to_vec(rt.alloc())?;
+        let graph = Graph::from_rows(starts, sources).ok_or("no rows")?;
+        Ok(ranks(rt.alloc(), &graph)?)
+    }
+
+    fn cycle_of(rt: &HostRuntime, starts: &[usize], sources: &[u32]) -> Result<Vec<u32>, Fail> {
+        match order_of(rt, starts, sources)? {
+            Order::Cycle(nodes) => Ok(nodes),
+            Order::Ranked(_) => Err(Fail::from("ranked")),
+        }
+    }
+
+    // Two gates that feed each other (nets a, b, q, n), a net that feeds itself, and a loop of three
+    // behind a net that is on none.
+    #[test]
+    fn finds_cycles(rt: HostRuntime) -> Result<(), Fail> {
+        let latch = cycle_of(&rt, [0, 0, 0, 2, 4].as_slice(), [0, 3, 2, 1].as_slice())?;
+        assert_eq!(rt; latch.as_slice(), [2, 3].as_slice());
+        let own = cycle_of(&rt, [0, 0, 1].as_slice(), [1].as_slice())?;
+        assert_eq!(rt; own.as_slice(), [1].as_slice());
+        let three = cycle_of(&rt, [0, 1, 2, 3, 4].as_slice(), [1, 3, 1, 2].as_slice())?;
+        assert_eq!(rt; three.as_slice(), [1, 2, 3].as_slice());
+        Ok(())
+    }
+
+    // An inverter of an inverter that stands behind it: net 1 comes from 2 and 2 from 0.
+    #[test]
+    fn ranks_a_chain(rt: HostRuntime) -> Result<(), Fail> {
+        match order_of(&rt, [0, 0, 1, 2].as_slice(), [2, 0].as_slice())? {
+            Order::Ranked(ranks) => assert_eq!(rt; ranks.as_slice(), [0, 2, 1].as_slice()),
+            Order::Cycle(_) => return Err(Fail::from("cycle")),
+        }
+        Ok(())
+    }
+
+    #[test]
+    fn refuses_what_are_no_rows(rt: HostRuntime) -> Result<(), Fail> {
+        let starts = [0, 1].to_vec(rt.alloc())?;
+        let sources = [1].to_vec(rt.alloc())?;
+        assert!(rt; Graph::from_rows(starts, sources).is_none());
+        Ok(())
+    }
+}
