@@ -2,3 +2,4 @@ pub mod ListLemmas
 pub mod SearchLemmas
 pub mod CycleLemmas
 pub mod OrderLemmas
+pub mod ReachLemmas

@@ -2,3 +2,4 @@ pub mod Rows
 pub mod Graph
 pub mod Search
 pub mod Laws
+pub mod Reach

@@ -4,7 +4,9 @@
 mod cycle;
 mod graph;
 mod order;
+mod reach;
 mod search;
 
 pub use graph::{Graph, Order};
 pub use order::ranks;
+pub use reach::reaching;
