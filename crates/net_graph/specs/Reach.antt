@@ -1,7 +1,7 @@
 -- Which nodes lead to given ones, along no edge or more.
-use Rattle.std.specs.Prelude.{◌≡◌, ℕ, ◌+◌, ◌<◌, Bool, true, false, List, [], ◌∷◌, ◌++◌, length, slice_get, slice_set, slice_index_or, sum_by, Some, ◌↔◌, ◌⊎◌}
+use Rattle.std.specs.Prelude.{◌≡◌, ℕ, ◌+◌, ◌<◌, Bool, true, false, List, [], ◌∷◌, ◌++◌, length, slice_get, slice_set, slice_index_or, sum_by, Some, ◌⊎◌}
 use Rattle.net_graph.specs.declared.graph.Graph.{Graph}
-use Rattle.net_graph.specs.Graph.{Leads, node_count}
+use Rattle.net_graph.specs.Graph.{Leads}
 
 -- the least set that has the ends, and with the end of an edge its start
 pub data Reaches (graph : Graph) (ends : List ℕ) : ℕ → Type 0 where

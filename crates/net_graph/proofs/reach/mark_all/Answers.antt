@@ -1,4 +1,4 @@
-use Rattle.std.proofs.Common.{◌≡◌, slice_get, get_or, Some, arith}
+use Rattle.std.proofs.Common.{get_or, arith}
 use Rattle.std.proofs.lemmas.Option.{slice_get-get_or}
 use Rattle.net_graph.proofs.ReachLemmas.{marks_more}
 use Rattle.net_graph.proofs.reach.mark_all.Goals as goal

@@ -1,7 +1,6 @@
-use Rattle.std.proofs.Common.{◌≡◌, ◌-◌, ℕ, length, slice_get, Some, arith}
+use Rattle.std.proofs.Common.{◌≡◌, ◌-◌, length, slice_get, Some, arith}
 use Rattle.std.proofs.lemmas.Option.{slice_get_read}
 use Rattle.net_graph.specs.Graph.{node_count}
-use Rattle.net_graph.specs.Reach.{IsIn}
 use Rattle.net_graph.proofs.ReachLemmas.{marked_low, closing_start, closing_more, closing_all}
 use Rattle.net_graph.proofs.reach.reaching.Goals as goal
 
