@@ -9,13 +9,13 @@ use Rattle.net_core.specs.declared.parts.Cell.{Cell}
 use Rattle.net_core.specs.Netlist.{Drives}
 use Rattle.net_graph.proofs.ListLemmas.{slice_get_set_same, slice_get_set_other}
 use Rattle.net_levels.specs.declared.drivers.Output.{Output}
-use Rattle.net_levels.specs.Drivers.{IsOutOn, HasOutput, Feeds, AreDrivers}
+use Rattle.net_levels.specs.Drivers.{IsOutOn, HasOutput, NamesOutputs, AreDrivers}
 
-pub feed_none : (outs : List (Option NetId)) (c : ℕ) (table : List (Option Output)) → Feeds outs c 0 table table
+pub feed_none : (outs : List (Option NetId)) (c : ℕ) (table : List (Option Output)) → NamesOutputs outs c 0 table table
 feed_none outs c table = record { size = refl; sound = λ n own at. inl at; stays = λ n own at. (own, at); fed = λ k n low on. absurd (omega (arith, low)) }
 
-pub feed_some : (outs : List (Option NetId)) (c i : ℕ) (net : NetId) (old table : List (Option Output)) → slice_get outs i ≡ Some (Some net) → net.0 < length table → Feeds outs c i old table
-    → Feeds outs c (i + 1) old (set table net.0 (Some (record { cell = c; pin = i })))
+pub feed_some : (outs : List (Option NetId)) (c i : ℕ) (net : NetId) (old table : List (Option Output)) → slice_get outs i ≡ Some (Some net) → net.0 < length table → NamesOutputs outs c i old table
+    → NamesOutputs outs c (i + 1) old (set table net.0 (Some (record { cell = c; pin = i })))
 feed_some outs c i net old table at low before = record { size = length-set table net.0 (Some (record { cell = c; pin = i })) ∙ before.size; sound = sound; stays = stays; fed = fed }
   where
     here : (n : ℕ) → n ≡ net.0 → HasOutput (set table net.0 (Some (record { cell = c; pin = i }))) n (record { cell = c; pin = i })
@@ -48,7 +48,7 @@ feed_some outs c i net old table at low before = record { size = length-set tabl
       | inr other ↦ (let mid = before.fed k n (omega (arith, less, other)) on in kept n mid.0 mid.1)
     ]
 
-pub feed_skip : (outs : List (Option NetId)) (c i : ℕ) (old table : List (Option Output)) → slice_get outs i ≡ Some None → Feeds outs c i old table → Feeds outs c (i + 1) old table
+pub feed_skip : (outs : List (Option NetId)) (c i : ℕ) (old table : List (Option Output)) → slice_get outs i ≡ Some None → NamesOutputs outs c i old table → NamesOutputs outs c (i + 1) old table
 feed_skip outs c i old table at before = record { size = before.size; sound = before.sound; stays = before.stays; fed = fed }
   where
     fed : (k n : ℕ) → k < i + 1 → IsOutOn outs k n → (own : Output) × HasOutput table n own
@@ -66,7 +66,7 @@ pub drivers_none : (cells : List Cell) (count : ℕ) → AreDrivers cells 0 (rep
 drivers_none cells count = record { sound = λ n own at. absurd (only_none count n own at); complete = λ c cell k n low drives. absurd (omega (arith, low)) }
 
 pub drivers_more : (cells : List Cell) (i : ℕ) (cell : Cell) (old new : List (Option Output)) → slice_get cells i ≡ Some cell → AreDrivers cells i old
-    → Feeds cell.outs i (length cell.outs) old new → AreDrivers cells (i + 1) new
+    → NamesOutputs cell.outs i (length cell.outs) old new → AreDrivers cells (i + 1) new
 drivers_more cells i cell old new at before feeds = record { sound = sound; complete = complete }
   where
     sound : (n : ℕ) (own : Output) → HasOutput new n own → (one : Cell) × Drives cells own.cell one own.pin n

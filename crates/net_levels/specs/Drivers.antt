@@ -16,7 +16,7 @@ abbrev pub HasOutput : List (Option Output) → ℕ → Output → Type 0
 HasOutput table n own = slice_get table n ≡ Some (Some own)
 
 -- the nets of the output pins below the bound of cell c get such a pin, and the others keep theirs
-pub record Feeds (outs : List (Option NetId)) (c bound : ℕ) (old new : List (Option Output)) : Type 0 where
+pub record NamesOutputs (outs : List (Option NetId)) (c bound : ℕ) (old new : List (Option Output)) : Type 0 where
   pub size : length new ≡ length old
   pub sound : (n : ℕ) (own : Output) → HasOutput new n own → HasOutput old n own ⊎ ((own.cell ≡ c) × IsOutOn outs own.pin n)
   pub stays : (n : ℕ) (own : Output) → HasOutput old n own → (later : Output) × HasOutput new n later

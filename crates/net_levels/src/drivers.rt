@@ -1,6 +1,6 @@
 ghost use Rattle.std.specs.Prelude.{◌≡◌, ℕ, ◌<◌, IfOk, length};
 ghost use Rattle.net_core.specs.Netlist.{HasDriver};
-ghost use Rattle.net_levels.specs.Drivers.{IsOutOn, Feeds, AreDrivers};
+ghost use Rattle.net_levels.specs.Drivers.{IsOutOn, NamesOutputs, AreDrivers};
 
 use ila_base::NoMemory;
 use net_core::{Cell, NetId};
@@ -16,7 +16,7 @@ pub struct Output {
 // Names the output pins of a cell for their nets.
 fn feed(table: &mut Vec<Option<Output>>, outs: &[Option<NetId>], cell: usize)
     requires { (k n : ℕ) → IsOutOn outs.now k n → n < length table.old.items }
-    ensures { Feeds outs.now cell (length outs.now) table.old.items table.new.items }
+    ensures { NamesOutputs outs.now cell (length outs.now) table.old.items table.new.items }
 {
     for (pin, out) in outs.iter().enumerate() {
         match out {

@@ -1,7 +1,7 @@
 use Rattle.std.proofs.Common.{◌≡◌, slice_get, refl, arith, ap, sym, ◌∙◌, List, Option, subst, length}
 use Rattle.std.proofs.lemmas.Option.{slice_get_read}
 use Rattle.net_core.specs.declared.parts.NetId.{NetId}
-use Rattle.net_levels.specs.Drivers.{Feeds}
+use Rattle.net_levels.specs.Drivers.{NamesOutputs}
 use Rattle.net_levels.proofs.DriverLemmas.{drivers_more}
 use Rattle.net_levels.proofs.drivers.drivers.Goals as goal
 
@@ -16,7 +16,7 @@ loop-number-preserved c =
     record {
       size = c.feed.ensures.size ∙ c.loop-number.invariant.size;
       named = drivers_more c.args.cells.now c.loop-number.number c.index-cells-number.result c.loop-number.table.items c.feed.new.table.items at c.loop-number.invariant.named
-          (subst (λ (outs : List (Option NetId)). Feeds outs c.loop-number.number (length outs) c.loop-number.table.items c.feed.new.table.items) c.as_slice.ensures c.feed.ensures);
+          (subst (λ (outs : List (Option NetId)). NamesOutputs outs c.loop-number.number (length outs) c.loop-number.table.items c.feed.new.table.items) c.as_slice.ensures c.feed.ensures);
     }
 
 pub returns-clause-named : goal.returns-clause-named
