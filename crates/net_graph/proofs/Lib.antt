@@ -1,0 +1,5 @@
+pub mod ListLemmas
+pub mod SearchLemmas
+pub mod CycleLemmas
+pub mod OrderLemmas
+pub mod ReachLemmas

@@ -1,0 +1,5 @@
+pub mod Rows
+pub mod Graph
+pub mod Search
+pub mod Laws
+pub mod Reach
