@@ -1,0 +1,4 @@
+pub mod ListLemmas
+pub mod SearchLemmas
+pub mod CycleLemmas
+pub mod OrderLemmas

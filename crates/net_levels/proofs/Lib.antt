@@ -1,0 +1,4 @@
+pub mod DriverLemmas
+pub mod SourceLemmas
+pub mod SettleLemmas
+pub mod LevelLemmas
