@@ -14,7 +14,8 @@ ghost use Rattle.clock_sim.specs.Plan.{base_of, stored_bit, AreRowsTo, AreSlots,
 
 use crate::plan::{Row, Slot};
 use ila_base::NoMemory;
-use net_core::{Cell, CellKind, Flat, NetId, Pin, Port};
+use net_core::{Cell, CellKind, Flat, Group, NetId, Pin, Port};
+use net_levels::types::Levels;
 use std::alloc::Global;
 
 // How many bits a cell stores.
@@ -86,19 +87,19 @@ pub fn push_rows(
 fn push_cell_slots(
     slots: &mut Vec<Slot>,
     flat: &Flat,
-    numbers: &[u32],
+    levels: &Levels,
     outs: &[Option<NetId>],
     cell: u32,
 ) -> Result<(), NoMemory>
-    requires numbers { length numbers.now ≡ net_count flat.now.groups }
+    requires size { length levels.now ≡ net_count flat.now.groups }
     requires nets { (k n : ℕ) → slice_get outs.now k ≡ Some (Some (record { 0 = n })) → n < net_count flat.now.groups }
     requires few { length outs.now < 2 ^ 32 }
-    ensures { OnOk result (slots.new.items ≡ slots.old.items ++ cell_slots flat.now numbers.now cell 0 outs.now) }
+    ensures { OnOk result (slots.new.items ≡ slots.old.items ++ cell_slots flat.now levels.now cell 0 outs.now) }
 {
     for (out, net) in outs.iter().enumerate() {
         match net {
             Some(net) if !flat.is_clock(*net) => slots.push(Slot {
-                level: numbers[net.0 as usize],
+                level: levels.number(*net),
                 cell,
                 out: out as u32,
                 net: net.0,
@@ -110,17 +111,17 @@ fn push_cell_slots(
 }
 
 /// The slots of the data outputs, in the order of levels.
-pub fn ordered_slots(alloc: Global, flat: &Flat, numbers: &[u32]) -> Result<Vec<Slot>, NoMemory>
-    requires numbers { length numbers.now ≡ net_count flat.now.groups }
-    requires ranked { IsRanked flat.now (slice_index numbers.now) }
-    ensures { IfOk result (λ slots. AreSlots flat.now (slice_index numbers.now) slots.items) }
+pub fn ordered_slots(alloc: Global, flat: &Flat, levels: &Levels) -> Result<Vec<Slot>, NoMemory>
+    requires size { length levels.now ≡ net_count flat.now.groups }
+    requires ranked { IsRanked flat.now (slice_index levels.now) }
+    ensures { IfOk result (λ slots. AreSlots flat.now (slice_index levels.now) slots.items) }
 {
     let mut slots = Vec::new(alloc);
     for (number, cell) in flat.cells().iter().enumerate() {
         push_cell_slots(
             &mut slots,
             flat,
-            numbers,
+            levels,
             cell.outs.as_slice(),
             number as u32,
         )?;
@@ -171,6 +172,14 @@ pub fn data_inputs(alloc: Global, flat: &Flat) -> Result<Vec<u32>, NoMemory>
         }
     }
     Ok(nets)
+}
+
+/// How many net bits the groups have.
+pub fn count_nets(groups: &[Group]) -> usize
+    requires { net_count groups.now < 2 ^ 32 }
+    ensures { result ≡ net_count groups.now }
+{
+    groups.iter().map(|group| group.bits.len()).sum()
 }
 
 /// The bits at the places before the first clock: all are 0 but the constant 1.

@@ -1,15 +1,16 @@
-ghost use Rattle.std.specs.Prelude.{◌≡◌, ℕ, List, Bool, [], IfOk, length, slice_index};
-ghost use Rattle.net_core.specs.Netlist.{Netlist, net_count};
-ghost use Rattle.net_core.specs.Cycle.{IsRanked};
+ghost use Rattle.std.specs.Prelude.{◌≡◌, ℕ, List, Bool, [], IfOk};
+ghost use Rattle.net_core.specs.Netlist.{Netlist};
+ghost use Rattle.net_levels.specs.Levels.{AreLevels};
 ghost use Rattle.net_core.specs.Run.{StandsFor};
 ghost use Rattle.clock_sim.specs.Plan.{net_bits, net_content};
 
-use crate::build::{data_inputs, ordered_slots, push_rows, start_stored, start_values};
+use crate::build::{count_nets, data_inputs, ordered_slots, push_rows, start_stored, start_values};
 use crate::clocking::{advance, place_inputs, settle};
 use crate::evaluate::bit_number;
 use crate::plan::{Row, Slot};
 use ila_base::NoMemory;
 use net_core::{CellId, Flat, Machine, NetId};
+use net_levels::types::Levels;
 use std::alloc::Global;
 use std::marker::Model;
 
@@ -37,12 +38,10 @@ impl<'a> Model for Plain<'a> {
 }
 
 impl<'a> Plain<'a> {
-    /// A simulator of the netlist before its first clock, by a number for each net that is above those
-    /// of all nets it depends on. It takes time linear in the net bits, cells, pins and stored bits, and
-    /// n log n in the n outputs.
-    pub fn over(alloc: Global, flat: &'a Flat, numbers: &[u32]) -> Result<Plain<'a>, NoMemory>
-        requires numbers { length numbers.now ≡ net_count flat.now.groups }
-        requires ranked { IsRanked flat.now (slice_index numbers.now) }
+    /// A simulator of the netlist before its first clock, by its level numbers. It takes time linear in
+    /// the net bits, cells, pins and stored bits, and n log n in the n outputs.
+    pub fn new(alloc: Global, flat: &'a Flat, levels: &Levels) -> Result<Plain<'a>, NoMemory>
+        requires { AreLevels flat.now levels.now }
         ensures netlist { IfOk result (λ plain. plain.net ≡ flat.now) }
         ensures stands { IfOk result (λ plain. StandsFor flat.now (net_bits plain) (net_content plain) []) }
     {
@@ -50,8 +49,8 @@ impl<'a> Plain<'a> {
         let mut pins = Vec::new(alloc);
         let mut rows = Vec::new(alloc);
         push_rows(&mut pins, &mut rows, flat.cells())?;
-        let slots = ordered_slots(alloc, flat, numbers)?;
-        let values = start_values(alloc, numbers.len())?;
+        let slots = ordered_slots(alloc, flat, levels)?;
+        let values = start_values(alloc, count_nets(flat.groups()))?;
         let stored = start_stored(alloc, flat.cells())?;
         Ok(Plain {
             flat,

@@ -1,8 +1,9 @@
 use Rattle.std.proofs.Common.{ℕ, List, length, sum_by, slice_get, ap, sym, ◌∙◌, subst, arith}
 use Rattle.net_core.specs.declared.parts.Cell.{Cell}
+use Rattle.net_core.specs.Netlist.{net_count}
 use Rattle.clock_sim.specs.Plan.{AreRowsTo, IsStartTo}
 use Rattle.clock_sim.proofs.PlanLemmas.{few_pins, all_allowed, places_fit, keeps_new, stands_new}
-use Rattle.clock_sim.proofs.plain.Plain.over.Goals as goal
+use Rattle.clock_sim.proofs.plain.Plain.new.Goals as goal
 
 pub push_rows-requires-clause-pins : goal.push_rows-requires-clause-pins
 push_rows-requires-clause-pins c =
@@ -24,9 +25,9 @@ invariant_of-result c =
     subst (λ (cells : List Cell). AreRowsTo cells (length cells) c.push_rows.new.places.items c.push_rows.new.rows.items c.in_ok-push_rows.field-0) c.cells.ensures.value c.in_ok-push_rows.ensures in
     let start : IsStartTo c.args.flat.now.cells (length c.args.flat.now.cells) c.in_ok-stored.stored.items =
     subst (λ (cells : List Cell). IsStartTo cells (length cells) c.in_ok-stored.stored.items) c.cells-2.ensures.value c.in_ok-stored.ensures in
-    keeps_new c.args.flat.now c.cells.ensures.kept c.args.numbers.now c.in_ok-inputs.inputs.items c.push_rows.new.places.items c.push_rows.new.rows.items c.in_ok-slots.slots.items
+    keeps_new c.args.flat.now c.cells.ensures.kept c.args.levels.now c.in_ok-inputs.inputs.items c.push_rows.new.places.items c.push_rows.new.rows.items c.in_ok-slots.slots.items
     c.in_ok-values.values.items c.in_ok-stored.stored.items c.in_ok-push_rows.field-0 c.requires.ranked c.in_ok-inputs.ensures told c.in_ok-slots.ensures
-    (omega (arith, c.in_ok-values.ensures.size, c.requires.numbers)) c.in_ok-values.ensures.constants start
+    (omega (arith, c.in_ok-values.ensures.size, c.count_nets.ensures, ap net_count c.groups.ensures.value)) c.in_ok-values.ensures.constants start
 
 pub returns-clause-stands : goal.returns-clause-stands
 returns-clause-stands c =
@@ -34,6 +35,6 @@ returns-clause-stands c =
     subst (λ (cells : List Cell). AreRowsTo cells (length cells) c.push_rows.new.places.items c.push_rows.new.rows.items c.in_ok-push_rows.field-0) c.cells.ensures.value c.in_ok-push_rows.ensures in
     let start : IsStartTo c.args.flat.now.cells (length c.args.flat.now.cells) c.in_ok-stored.stored.items =
     subst (λ (cells : List Cell). IsStartTo cells (length cells) c.in_ok-stored.stored.items) c.cells-2.ensures.value c.in_ok-stored.ensures in
-    stands_new c.args.flat.now c.cells.ensures.kept c.args.numbers.now c.in_ok-inputs.inputs.items c.push_rows.new.places.items c.push_rows.new.rows.items c.in_ok-slots.slots.items
+    stands_new c.args.flat.now c.cells.ensures.kept c.args.levels.now c.in_ok-inputs.inputs.items c.push_rows.new.places.items c.push_rows.new.rows.items c.in_ok-slots.slots.items
     c.in_ok-values.values.items c.in_ok-stored.stored.items c.in_ok-push_rows.field-0 c.requires.ranked c.in_ok-inputs.ensures told c.in_ok-slots.ensures
-    (omega (arith, c.in_ok-values.ensures.size, c.requires.numbers)) c.in_ok-values.ensures.constants start
+    (omega (arith, c.in_ok-values.ensures.size, c.count_nets.ensures, ap net_count c.groups.ensures.value)) c.in_ok-values.ensures.constants start
