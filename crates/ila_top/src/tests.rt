@@ -153,95 +153,88 @@ fn commands_over_memory(rt: HostRuntime) -> Result<(), Fail> {
     Ok(())
 }
 
-// A status, the name of its core, and its line.
-fn lines(alloc: Global) -> Result<Vec<(Status, &'static [u8])>, Fail> {
-    let place = Place { line: 3, col: 14 };
-    let name = || Name::new(alloc, b"q[4]");
-    let mut loops = Items::new(alloc);
-    loops.push(Name::new(alloc, b"q")?)?;
-    loops.push(Name::new(alloc, b"n")?)?;
+// What the error sink holds of the line of a status, where the core is named `c0`.
+fn line_of(alloc: Global, status: &Status) -> Result<Vec<u8>, Fail> {
+    let mut errors = MemSink::new(alloc, 64, 1000, Vec::new(alloc))?;
+    let _ = write_error(&mut errors, status, b"c0");
+    Ok(Vec::from_slice(alloc, errors.bytes())?)
+}
+
+const PLACE: Place = Place { line: 3, col: 14 };
+
+#[test]
+fn lines_of_refused_netlists(rt: HostRuntime) -> Result<(), Fail> {
+    let alloc = rt.alloc();
+    let construct = NetRefusal::Construct(Name::new(alloc, b"q[4]")?);
+    let line = line_of(alloc, &Status::Netlist(construct, PLACE))?;
+    assert_eq!(rt; line.as_slice(), b"ila: N2 3:14 q[4]\n".as_slice());
+    let top = NetRefusal::TopOrClock(Name::new(alloc, b"clk")?);
+    let line = line_of(alloc, &Status::Netlist(top, Place::NOWHERE))?;
+    assert_eq!(rt; line.as_slice(), b"ila: N13 clk\n".as_slice());
     let width = NetRefusal::Width { want: 2, have: 1 };
+    let line = line_of(alloc, &Status::Netlist(width, PLACE))?;
+    assert_eq!(rt; line.as_slice(), b"ila: N8 3:14 2 1\n".as_slice());
     let limit = NetRefusal::Limit(LimitKind::Nesting, 33);
+    let line = line_of(alloc, &Status::Netlist(limit, PLACE))?;
+    assert_eq!(rt; line.as_slice(), b"ila: N17 Nesting 33\n".as_slice());
+    Ok(())
+}
+
+#[test]
+fn line_of_a_loop(rt: HostRuntime) -> Result<(), Fail> {
+    let alloc = rt.alloc();
+    let mut names = Items::new(alloc);
+    names.push(Name::new(alloc, b"q")?)?;
+    names.push(Name::new(alloc, b"n")?)?;
+    let line = line_of(
+        alloc,
+        &Status::Netlist(NetRefusal::Loop(names), Place::NOWHERE),
+    )?;
+    assert_eq!(rt; line.as_slice(), b"ila: N18 q n\n".as_slice());
+    Ok(())
+}
+
+#[test]
+fn lines_of_refused_projects(rt: HostRuntime) -> Result<(), Fail> {
+    let alloc = rt.alloc();
+    let line = line_of(alloc, &Status::Project(ProjRefusal::NotToml))?;
+    assert_eq!(rt; line.as_slice(), b"ila: P1\n".as_slice());
+    let taken = ProjRefusal::NameTaken(Name::new(alloc, b"q[4]")?);
+    let line = line_of(alloc, &Status::Project(taken))?;
+    assert_eq!(rt; line.as_slice(), b"ila: P10 q[4]\n".as_slice());
+    Ok(())
+}
+
+#[test]
+fn lines_of_cores(rt: HostRuntime) -> Result<(), Fail> {
+    let alloc = rt.alloc();
+    let line = line_of(alloc, &Status::Tsm(0, TsmRefusal::UnknownState, PLACE))?;
+    assert_eq!(rt; line.as_slice(), b"ila: Q4 c0 3:14\n".as_slice());
     let terms = ResRefusal::Terms {
         state: 0,
         cond: 0,
         count: 18,
     };
+    let line = line_of(alloc, &Status::Resource(0, terms))?;
+    assert_eq!(rt; line.as_slice(), b"ila: M3 c0 0 0 18\n".as_slice());
     let shape = SetRefusal::Shape {
         field: 0,
         file: 8,
         core: 16,
     };
-    let rows: Vec<(Status, &'static [u8])> = vec![in alloc;
-        (Status::Done, b"".as_slice()),
-        (
-            Status::Netlist(NetRefusal::Construct(name()?), place),
-            b"ila: N2 3:14 q[4]\n".as_slice()
-        ),
-        (
-            Status::Netlist(width, place),
-            b"ila: N8 3:14 2 1\n".as_slice()
-        ),
-        (
-            Status::Netlist(NetRefusal::TopOrClock(name()?), Place::NOWHERE),
-            b"ila: N13 q[4]\n".as_slice()
-        ),
-        (
-            Status::Netlist(NetRefusal::XZ, place),
-            b"ila: N16 3:14\n".as_slice()
-        ),
-        (
-            Status::Netlist(limit, place),
-            b"ila: N17 Nesting 33\n".as_slice()
-        ),
-        (
-            Status::Netlist(NetRefusal::Loop(loops), Place::NOWHERE),
-            b"ila: N18 q n\n".as_slice()
-        ),
-        (
-            Status::Project(ProjRefusal::NotToml),
-            b"ila: P1\n".as_slice()
-        ),
-        (
-            Status::Project(ProjRefusal::BadValue(Name::new(alloc, b"")?)),
-            b"ila: P5\n".as_slice()
-        ),
-        (
-            Status::Project(ProjRefusal::NameTaken(name()?)),
-            b"ila: P10 q[4]\n".as_slice()
-        ),
-        (
-            Status::Tsm(0, TsmRefusal::UnknownState, place),
-            b"ila: Q4 c0 3:14\n".as_slice()
-        ),
-        (
-            Status::Resource(0, ResRefusal::States(17)),
-            b"ila: M1 c0 17\n".as_slice()
-        ),
-        (
-            Status::Resource(0, terms),
-            b"ila: M3 c0 0 0 18\n".as_slice()
-        ),
-        (
-            Status::Settings(SetRefusal::Form(0)),
-            b"ila: W1 0\n".as_slice()
-        ),
-        (Status::Settings(shape), b"ila: W2 0 8 16\n".as_slice()),
-        (
-            Status::Stimulus(StimRefusal::Limit(4_294_967_295)),
-            b"ila: S3 4294967295\n".as_slice()
-        ),
-        (Status::NoMemory, b"ila: no memory\n".as_slice()),
-    ]?;
-    Ok(rows)
+    let line = line_of(alloc, &Status::Settings(shape))?;
+    assert_eq!(rt; line.as_slice(), b"ila: W2 0 8 16\n".as_slice());
+    Ok(())
 }
 
 #[test]
-fn error_lines(rt: HostRuntime) -> Result<(), Fail> {
-    for (status, line) in &lines(rt.alloc())? {
-        let mut errors = MemSink::new(rt.alloc(), 64, 1000, Vec::new(rt.alloc()))?;
-        let _ = write_error(&mut errors, status, b"c0");
-        assert_eq!(rt; errors.bytes(), *line);
-    }
+fn lines_of_streams(rt: HostRuntime) -> Result<(), Fail> {
+    let alloc = rt.alloc();
+    let line = line_of(alloc, &Status::Done)?;
+    assert_eq!(rt; line.as_slice(), b"".as_slice());
+    let line = line_of(alloc, &Status::Stimulus(StimRefusal::Limit(4_294_967_295)))?;
+    assert_eq!(rt; line.as_slice(), b"ila: S3 4294967295\n".as_slice());
+    let line = line_of(alloc, &Status::NoMemory)?;
+    assert_eq!(rt; line.as_slice(), b"ila: no memory\n".as_slice());
     Ok(())
 }

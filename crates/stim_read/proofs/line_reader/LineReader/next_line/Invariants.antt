@@ -16,7 +16,7 @@ invariant-loop-self g l = record {
   quiet : (Unbroken (between l.initial.self.buffer.items l.initial.self.at l.initial.self.end) → ⊥)
       → (l.source ≡ l.initial.source) × (between l.self.buffer.items l.self.at l.self.end ≡ between l.initial.self.buffer.items l.initial.self.at l.initial.self.end);
   ended : l.initial.self.ended ≡ true → (l.source ≡ l.initial.source) × (l.self.ended ≡ true);
-  drained : IsDrained l.initial.self.ended (g.S.Source.left l.initial.source) → IsDrained l.self.ended (g.S.Source.left l.source)
+  drained : IsDrained l.initial.self.ended (g.S.Source.left l.initial.source) → IsDrained l.self.ended (g.S.Source.left l.source);
 }
 
 abbrev pub decreases-loop-self : goal.decreases-loop-self
