@@ -1,6 +1,8 @@
-//! Rows for the tokens of a text: texts with the tokens, or the refusal, that the rules give for them.
+//! Tables of what is given and what must come out: the tokens of texts, and whole commands over memory.
 #![tactic(auto)]
 
+#[cfg(test)]
+mod commands;
 #[cfg(test)]
 mod rows;
 #[cfg(test)]

@@ -1,0 +1,205 @@
+use ila_base::{MemShelf, MemSink, MemSource, Name};
+use ila_top::{exit_code, ila};
+use std::alloc::Global;
+use std::process::Abort;
+use std::test::Fail;
+
+const TOGGLE: &[u8] = b"module tog (clk, x, y); input clk; input x; output y; wire d;\n\
+    FDRE r (.C(clk), .CE(1'b1), .D(d), .Q(y), .R(1'b0)); xor (d, x, y); endmodule\n";
+
+// What a call of `ila` is given, and what it must answer: the words, the numbers of the failing
+// calls of shelf, source and sink, the stimulus; the trace, the error line and the exit status.
+struct Row {
+    words: &'static [&'static str],
+    fails: [&'static [u32]; 3],
+    stimulus: &'static [u8],
+    trace: &'static [u8],
+    line: &'static [u8],
+    exit: u8,
+}
+
+const SIM: &[&str] = &["sim", "tog.v", "tog", "clk"];
+
+const NO_FAILS: [&[u32]; 3] = [&[], &[], &[]];
+
+fn texts(alloc: Global, words: &[&str]) -> Result<Vec<String>, Fail> {
+    let mut texts = Vec::new(alloc);
+    for word in words {
+        texts.push(String::from_str(alloc, word)?)?;
+    }
+    Ok(texts)
+}
+
+// The shelf of a row: the toggle as `tog.v`.
+fn shelf_of(alloc: Global, fails: &[u32]) -> Result<MemShelf, Fail> {
+    let toggle = Vec::from_slice(alloc, TOGGLE)?;
+    let files = vec![in alloc; (Name::new(alloc, b"tog.v")?, toggle)]?;
+    Ok(MemShelf::new(files, Vec::from_slice(alloc, fails)?))
+}
+
+// What came out of a call: the exit status, the trace and the error line.
+#[derive(Drop)]
+struct Answer {
+    exit: u8,
+    trace: MemSink,
+    errors: MemSink,
+}
+
+fn answer_of(alloc: Global, row: &Row) -> Result<Answer, Fail> {
+    let [shelf_fails, read_fails, write_fails] = row.fails;
+    let mut shelf = shelf_of(alloc, shelf_fails)?;
+    let bytes = Vec::from_slice(alloc, row.stimulus)?;
+    let mut stimulus = MemSource::new(bytes, 4, Vec::from_slice(alloc, read_fails)?);
+    let mut trace = MemSink::new(alloc, 64, 1000, Vec::from_slice(alloc, write_fails)?)?;
+    let mut errors = MemSink::new(alloc, 3, 1000, Vec::new(alloc))?;
+    let words = texts(alloc, row.words)?;
+    let status = ila(
+        alloc,
+        words.as_slice(),
+        &mut shelf,
+        &mut stimulus,
+        &mut trace,
+        &mut errors,
+    );
+    let exit = exit_code(&status);
+    Ok(Answer {
+        exit,
+        trace,
+        errors,
+    })
+}
+
+// Whether a call answers as its row says.
+fn is_right(alloc: Global, row: &Row) -> Result<bool, Fail> {
+    let answer = answer_of(alloc, row)?;
+    Ok(
+        answer.exit == row.exit
+            && answer.trace.bytes() == row.trace
+            && answer.errors.bytes() == row.line,
+    )
+}
+
+fn assert_rows(rt: &impl Abort, alloc: Global, rows: &[Row]) -> Result<(), Fail> {
+    for row in rows {
+        assert!(rt; is_right(alloc, row)?);
+    }
+    Ok(())
+}
+
+#[test]
+fn stimuli_and_their_traces(rt: HostRuntime) -> Result<(), Fail> {
+    assert_rows(
+        &rt,
+        rt.alloc(),
+        &[
+            Row {
+                words: SIM,
+                fails: NO_FAILS,
+                stimulus: b"x\n1\n0\n1\n1\n",
+                trace: b"y\n0\n1\n1\n0\n",
+                line: b"",
+                exit: 0,
+            },
+            Row {
+                words: SIM,
+                fails: NO_FAILS,
+                stimulus: b"x\n1\n2\n1\n1\n",
+                trace: b"y\n0\n",
+                line: b"ila: S2 3\n",
+                exit: 7,
+            },
+            Row {
+                words: SIM,
+                fails: NO_FAILS,
+                stimulus: b"",
+                trace: b"",
+                line: b"ila: S1\n",
+                exit: 7,
+            },
+            Row {
+                words: SIM,
+                fails: NO_FAILS,
+                stimulus: b"x\r\n1\r\n0",
+                trace: b"y\n0\n1\n",
+                line: b"",
+                exit: 0,
+            },
+        ],
+    )
+}
+
+#[test]
+fn words_and_netlists_that_are_refused(rt: HostRuntime) -> Result<(), Fail> {
+    assert_rows(
+        &rt,
+        rt.alloc(),
+        &[
+            Row {
+                words: &["sim", "none.v", "tog", "clk"],
+                fails: NO_FAILS,
+                stimulus: b"x\n1\n",
+                trace: b"",
+                line: b"ila: no file none.v\n",
+                exit: 12,
+            },
+            Row {
+                words: &["insert"],
+                fails: NO_FAILS,
+                stimulus: b"x\n1\n",
+                trace: b"",
+                line: b"ila: usage\n",
+                exit: 1,
+            },
+            Row {
+                words: &["sim", "tog.v", "tog", "x", "more"],
+                fails: NO_FAILS,
+                stimulus: b"x\n1\n",
+                trace: b"",
+                line: b"ila: usage\n",
+                exit: 1,
+            },
+            Row {
+                words: &["sim", "tog.v", "other", "clk"],
+                fails: NO_FAILS,
+                stimulus: b"x\n1\n",
+                trace: b"",
+                line: b"ila: N3 1:1\n",
+                exit: 2,
+            },
+        ],
+    )
+}
+
+#[test]
+fn faults_of_shelf_source_and_sink(rt: HostRuntime) -> Result<(), Fail> {
+    assert_rows(
+        &rt,
+        rt.alloc(),
+        &[
+            Row {
+                words: SIM,
+                fails: [&[0], &[], &[]],
+                stimulus: b"x\n1\n",
+                trace: b"",
+                line: b"ila: file fault\n",
+                exit: 8,
+            },
+            Row {
+                words: SIM,
+                fails: [&[], &[1], &[]],
+                stimulus: b"x\n1\n1\n1\n",
+                trace: b"y\n0\n",
+                line: b"ila: read fault\n",
+                exit: 9,
+            },
+            Row {
+                words: SIM,
+                fails: [&[], &[], &[1]],
+                stimulus: b"x\n1\n1\n",
+                trace: b"y\n",
+                line: b"ila: write fault\n",
+                exit: 10,
+            },
+        ],
+    )
+}
