@@ -2,3 +2,4 @@ pub mod Faults
 pub mod FaultLaws
 pub mod Files
 pub mod Fakes
+pub mod formers
