@@ -1,0 +1,7 @@
+//! The grammar of structural Verilog: the tree of modules that a list of tokens stands for
+//! (IEEE 1364-2005, clauses 5, 6, 7 and 12), in this profile.
+#![tactic(auto)]
+
+mod tree;
+
+pub use tree::{Conns, Decl, Dir, Expr, Gate, GateKind, Inst, Item, Module, Range, Tree, Value};
