@@ -1,6 +1,6 @@
 -- When a rule's reading is exact: it takes just the words of the language, and is stuck at the first token with which no word
 -- goes on.
-use Rattle.std.specs.Prelude.{◌≡◌, Bool, true, List, [], ◌∷◌, ◌++◌, Option}
+use Rattle.std.specs.Prelude.{◌≡◌, Bool, true, false, ◌||◌, List, [], ◌∷◌, ◌++◌, Option, Some, None}
 use Rattle.grammar.specs.Rule.{Language, Outcome, Rule, first}
 use Rattle.grammar.specs.Rule.Outcome.{Took, Stuck}
 
@@ -11,6 +11,24 @@ Sight T = Option T → Bool
 -- each of these may come first by the other too
 abbrev pub IsWithin : {T : Type 0} → Sight T → Sight T → Type 0
 IsWithin {T} some all = (o : Option T) → some o ≡ true → all o ≡ true
+
+abbrev pub sees : {T : Type 0} → (T → Bool) → Sight T
+sees passes None = false
+sees passes (Some t) = passes t
+
+abbrev pub anything : {T : Type 0} → Sight T
+anything o = true
+
+abbrev pub at_end : {T : Type 0} → Sight T
+at_end None = true
+at_end (Some t) = false
+
+abbrev pub or_else : {T : Type 0} → Sight T → Sight T → Sight T
+or_else one other o = one o || other o
+
+-- no token that passes may come first
+abbrev pub Excludes : {T : Type 0} → (T → Bool) → Sight T → Type 0
+Excludes {T} passes sight = (t : T) → passes t ≡ true → sight (Some t) ≡ false
 
 -- the value was taken: a word of it stands before the rest, and would be taken before any rest that begins with the same token
 pub record Taken (T A : Type 0) (rule : Rule T A) (ts : List T) (x : A) (rest : List T) : Type 0 where

@@ -1,2 +1,6 @@
 pub mod Rule
 pub mod Good
+pub mod Outcomes
+pub mod TokenLaws
+pub mod SequenceLaws
+pub mod ChoiceLaws
