@@ -4,3 +4,5 @@ pub mod Outcomes
 pub mod TokenLaws
 pub mod SequenceLaws
 pub mod ChoiceLaws
+pub mod RepeatLaws
+pub mod ListLaws

@@ -84,15 +84,15 @@ abbrev pub AreWords : {T A : Type 0} → Language T A → List T → List A → 
 AreWords language ts [] = ts ≡ []
 AreWords {T} language ts (x ∷ xs) = (front : List T) × (back : List T) × (ts ≡ front ++ back) × language front x × AreWords language back xs
 
-abbrev pub read_many : {T A : Type 0} → ℕ → (T → Bool) → (List T → Outcome T A) → List T → Outcome T (List A)
-read_many zero passes read ts = Took [] ts
-read_many (suc n) passes read ts =
-    if looks passes ts then continue (read ts) (λ x rest. continue (read_many n passes read rest) (λ xs behind. Took (x ∷ xs) behind)) else Took [] ts
+-- at most so many times
+abbrev pub times : {T A : Type 0} → ℕ → (T → Bool) → Rule T A → Rule T (List A)
+times zero passes rule = pure []
+times (suc n) passes rule = either passes (do x ← rule; xs ← times n passes rule; pure (x ∷ xs)) (pure [])
 
 abbrev pub repeat : {T A : Type 0} → (T → Bool) → Rule T A → Rule T (List A)
 repeat passes rule = record {
   words = AreWords rule.words;
-  read = λ ts. read_many (length ts) passes rule.read ts
+  read = λ ts. (times (length ts) passes rule).read ts
 }
 
 -- A rule, or nothing.
