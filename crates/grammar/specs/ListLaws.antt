@@ -1,14 +1,13 @@
 -- The law of lists with a separator between two, and what an exact rule says of a whole text.
-use Rattle.std.specs.Prelude.{◌≡◌, refl, ◌<◌, ◌+◌, Bool, true, false, ◌||◌, List, [], ◌∷◌, ◌++◌, length, Option, Some, None, cond}
-use Rattle.std.proofs.Common.{sym, ◌∙◌, ap, subst, append-nil, append_assoc, arith}
-use Rattle.grammar.specs.Rule.{Outcome, Rule, Language, first, looks, continue, token, pure, ◌>>=◌, repeat, list}
+use Rattle.std.specs.Prelude.{◌≡◌, refl, Bool, true, false, ◌||◌, List, [], ◌∷◌, ◌++◌, None}
+use Rattle.std.proofs.Common.{sym, ◌∙◌, ap, subst, append-nil, append_assoc}
+use Rattle.grammar.specs.Rule.{Rule, Language, token, pure, ◌>>=◌, repeat, list}
 use Rattle.grammar.specs.Rule.Outcome.{Took, Stuck}
-use Rattle.grammar.specs.Good.{Sight, IsWithin, Excludes, or_else, sees, anything, Taken, Blocked, Good, IsRefusedAt}
-use Rattle.grammar.specs.Outcomes.{not_both_ways, not_both, not_empty, took_value, cond_yes}
+use Rattle.grammar.specs.Good.{Sight, IsWithin, Excludes, or_else, sees, Taken, Blocked, Good, IsRefusedAt}
+use Rattle.grammar.specs.Outcomes.{not_both, not_empty, took_value}
 use Rattle.grammar.specs.TokenLaws.{token_good, pure_good}
 use Rattle.grammar.specs.SequenceLaws.{then_good}
-use Rattle.grammar.specs.ChoiceLaws.{widened}
-use Rattle.grammar.specs.RepeatLaws.{HasNoEmpty, Shrinks, repeat_good, repeat_takes, repeat_stops, repeat_ends, with_first}
+use Rattle.grammar.specs.RepeatLaws.{HasNoEmpty, repeat_good}
 
 -- either of two sights
 pub either_within : {T : Type 0} (a b all : Sight T) → IsWithin a all → IsWithin b all → IsWithin (or_else a b) all
@@ -58,13 +57,17 @@ pub refused : {T A : Type 0} {begins follows : Sight T} (rule : Rule T A) → Go
     → (ts rest : List T) → rule.read ts ≡ Stuck rest → (front : List T) × (ts ≡ front ++ rest) × IsRefusedAt T A rule.words front rest
 refused {T} {A} rule good ok ts rest e = by_front (good.stuck ts rest e) where
   by_front : Blocked T A rule ts rest → (front : List T) × (ts ≡ front ++ rest) × IsRefusedAt T A rule.words front rest
-  by_front b = (b.front, b.whole, record {
-    more = b.more;
-    value = b.value;
-    begins = b.goes_on;
-    refused = λ t after other x is w. not_both (sym (reads_whole rule good ok (b.front ++ t ∷ other) x w) ∙ b.refuses t after other is);
-    no_word = λ x w. not_both (sym (ap rule.read b.whole ∙ reads_whole rule good ok (b.front ++ rest) x w) ∙ e)
-  })
+  by_front b = (
+    b.front,
+    b.whole,
+    record {
+      more = b.more;
+      value = b.value;
+      begins = b.goes_on;
+      refused = λ t after other x is w. not_both (sym (reads_whole rule good ok (b.front ++ t ∷ other) x w) ∙ b.refuses t after other is);
+      no_word = λ x w. not_both (sym (ap rule.read b.whole ∙ reads_whole rule good ok (b.front ++ rest) x w) ∙ e);
+    },
+  )
 
 -- a text is refused at one place alone: where a front of it can be gone on with, each shorter front can
 pub goes_on_before : {T A : Type 0} (language : Language T A) (front after more : List T) (x : A) → language ((front ++ after) ++ more) x → (rest : List T) × (y : A) × language (front ++ rest) y

@@ -1,14 +1,14 @@
 -- The laws of repetition: how a reading of several goes on from one to the next, and when it is exact.
-use Rattle.std.specs.Prelude.{◌≡◌, refl, ℕ, zero, suc, ◌+◌, ◌<◌, ◌≤◌, Bool, true, false, List, [], ◌∷◌, ◌++◌, length, Option, Some, None, cond}
-use Rattle.std.proofs.Common.{sym, ◌∙◌, ap, subst, inl, inr, append_assoc, append-nil, arith, length-append}
+use Rattle.std.specs.Prelude.{◌≡◌, refl, ℕ, zero, suc, ◌+◌, ◌<◌, ◌≤◌, Bool, true, false, List, [], ◌∷◌, ◌++◌, length, cond}
+use Rattle.std.proofs.Common.{sym, ◌∙◌, ap, subst, inl, inr, append-nil, arith, length-append}
 use Rattle.std.proofs.lemmas.List.{append_cancel_right}
-use Rattle.grammar.specs.Rule.{Outcome, Rule, Language, first, looks, continue, pure, ◌>>=◌, either, AreWords, times, repeat}
+use Rattle.grammar.specs.Rule.{Outcome, Rule, first, looks, continue, pure, ◌>>=◌, AreWords, times, repeat}
 use Rattle.grammar.specs.Rule.Outcome.{Took, Stuck}
 use Rattle.grammar.specs.Good.{Sight, IsWithin, Excludes, or_else, sees, Taken, Blocked, Good}
 use Rattle.grammar.specs.Outcomes.{cond_yes, cond_not}
 use Rattle.grammar.specs.TokenLaws.{pure_good}
 use Rattle.grammar.specs.SequenceLaws.{then_good}
-use Rattle.grammar.specs.ChoiceLaws.{widened, either_good, or_left, or_right}
+use Rattle.grammar.specs.ChoiceLaws.{widened, either_good, or_right}
 
 -- what is taken leaves fewer tokens
 abbrev pub Shrinks : {T A : Type 0} → Rule T A → Type 0
@@ -75,6 +75,7 @@ shrinks_by {T} {A} rule good some ts rest x e = fewer (good.took ts rest x e) wh
       let size : length ts ≡ suc (length (front ++ rest)) = ap length whole in
       let parts : length (front ++ rest) ≡ length front + length rest = length-append front rest in
       omega (arith, size, parts)
+
   fewer : Taken T A rule ts x rest → length rest < length ts
   fewer t = fewer_by t.front t.reads t.whole
 
@@ -164,5 +165,5 @@ module _ {T A : Type 0} {begins between : Sight T} (follows : Sight T) (passes :
     stuck = λ ts rest e. blocked ts rest e ((times_good (length ts)).stuck ts rest e);
     shortest = [];
     meaning = [];
-    word = refl
+    word = refl;
   }

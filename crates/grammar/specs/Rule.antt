@@ -39,7 +39,7 @@ read_term passes value (t ∷ ts) = if passes t then Took (value t) ts else Stuc
 abbrev pub term : {T A : Type 0} → (T → Bool) → (T → A) → Rule T A
 term {T} passes value = record {
   words = λ ts a. (t : T) × (ts ≡ t ∷ []) × (passes t ≡ true) × (a ≡ value t);
-  read = read_term passes value
+  read = read_term passes value;
 }
 
 -- One token that passes, whose value isn't kept.
@@ -50,7 +50,7 @@ token passes = term passes (λ _. tt {0})
 abbrev pub pure : {T A : Type 0} → A → Rule T A
 pure value = record {
   words = λ ts a. (ts ≡ []) × (a ≡ value);
-  read = λ ts. Took value ts
+  read = λ ts. Took value ts;
 }
 
 -- The end of the text.
@@ -61,7 +61,7 @@ read_end (t ∷ ts) = Stuck (t ∷ ts)
 abbrev pub end : {T : Type 0} → Rule T (Unit {0})
 end = record {
   words = λ ts _. ts ≡ [];
-  read = read_end
+  read = read_end;
 }
 
 -- One rule and then another: the list is cut in two.
@@ -69,14 +69,14 @@ infixl 10 ◌>>=◌
 abbrev pub ◌>>=◌ : {T A B : Type 0} → Rule T A → (A → Rule T B) → Rule T B
 ◌>>=◌ {T} {A} {B} rule next = record {
   words = λ ts b. (front : List T) × (back : List T) × (a : A) × (ts ≡ front ++ back) × rule.words front a × (next a).words back b;
-  read = λ ts. continue (rule.read ts) (λ a rest. (next a).read rest)
+  read = λ ts. continue (rule.read ts) (λ a rest. (next a).read rest);
 }
 
 -- One rule or another. The reading takes the one where the first token passes, else the other.
 abbrev pub either : {T A : Type 0} → (T → Bool) → Rule T A → Rule T A → Rule T A
 either passes one other = record {
   words = λ ts a. one.words ts a ⊎ other.words ts a;
-  read = λ ts. if looks passes ts then one.read ts else other.read ts
+  read = λ ts. if looks passes ts then one.read ts else other.read ts;
 }
 
 -- One rule several times, or never. The reading goes on while the first token passes.
@@ -92,7 +92,7 @@ times (suc n) passes rule = either passes (do x ← rule; xs ← times n passes 
 abbrev pub repeat : {T A : Type 0} → (T → Bool) → Rule T A → Rule T (List A)
 repeat passes rule = record {
   words = AreWords rule.words;
-  read = λ ts. (times (length ts) passes rule).read ts
+  read = λ ts. (times (length ts) passes rule).read ts;
 }
 
 -- A rule, or nothing.
