@@ -1,13 +1,13 @@
 -- The laws of repetition: how a reading of several goes on from one to the next, and when it is exact.
 use Rattle.std.specs.Prelude.{◌≡◌, refl, ℕ, zero, suc, ◌+◌, ◌<◌, ◌≤◌, Bool, true, false, List, [], ◌∷◌, ◌++◌, length, cond}
 use Rattle.std.proofs.Common.{sym, ◌∙◌, ap, subst, inl, inr, append-nil, arith, length-append}
-use Rattle.std.proofs.lemmas.List.{append_cancel_right}
-use Rattle.grammar.specs.Rule.{Outcome, Rule, first, looks, continue, pure, ◌>>=◌, AreWords, times, repeat}
+use Rattle.grammar.specs.Rule.{Outcome, Rule, looks, continue, pure, ◌>>=◌, AreWords, times, repeat, unbounded}
 use Rattle.grammar.specs.Rule.Outcome.{Took, Stuck}
-use Rattle.grammar.specs.Good.{Sight, IsWithin, Excludes, or_else, sees, Taken, Blocked, Good}
+use Rattle.grammar.specs.Good.{Sight, IsWithin, Excludes, or_else, sees, Taken, Good}
 use Rattle.grammar.specs.Outcomes.{cond_yes, cond_not}
 use Rattle.grammar.specs.TokenLaws.{pure_good}
 use Rattle.grammar.specs.SequenceLaws.{then_good}
+use Rattle.grammar.specs.BoundLaws.{said_otherwise, unbounded_good}
 use Rattle.grammar.specs.ChoiceLaws.{widened, either_good, or_right}
 
 -- what is taken leaves fewer tokens
@@ -80,12 +80,6 @@ shrinks_by {T} {A} rule good some ts rest x e = fewer (good.took ts rest x e) wh
   fewer t = fewer_by t.front t.reads t.whole
 
 module _ {T A : Type 0} (passes : T → Bool) (rule : Rule T A) where
-  abbrev many : Rule T (List A)
-  many = repeat passes rule
-
-  abbrev bounded : ℕ → Rule T (List A)
-  bounded n = times n passes rule
-
   times_words : (n : ℕ) (ts : List T) (xs : List A) → AreWords rule.words ts xs → length xs ≤ n → (times n passes rule).words ts xs
   times_words zero ts [] w few = (w, refl)
   times_words zero ts (x ∷ xs) w few = absurd (omega (arith, few))
@@ -101,17 +95,11 @@ module _ {T A : Type 0} (passes : T → Bool) (rule : Rule T A) where
       let back_is : back ≡ middle = cut_back ∙ ap (λ us. middle ++ us) none ∙ append-nil middle in
       subst P (sym is) (front, middle, cut ∙ ap (λ us. front ++ us) back_is, w, words_of n middle ys ws)
 
-  -- each takes a token
-  few_by : (some : HasNoEmpty rule) (ts front back : List T) (x : A) (xs : List A) → ts ≡ front ++ back → rule.words front x → length xs ≤ length back → length (x ∷ xs) ≤ length ts
-  few_by some ts [] back x xs cut w less = absurd (some x w)
-  few_by some ts (t ∷ front) back x xs cut w less =
-      let size : length ts ≡ suc (length (front ++ back)) = ap length cut in
-      let parts : length (front ++ back) ≡ length front + length back = length-append front back in
-      omega (arith, size, parts, less)
-
-  few : HasNoEmpty rule → (ts : List T) (xs : List A) → AreWords rule.words ts xs → length xs ≤ length ts
-  few some ts [] w = omega arith
-  few some ts (x ∷ xs) (front, back, cut, w, ws) = few_by some ts front back x xs cut w (few some back xs ws)
+  at_most : (n : ℕ) (ts : List T) (xs : List A) → (times n passes rule).words ts xs → length xs ≤ n
+  at_most zero ts xs (none, is) = let size : length xs ≡ 0 = ap length is in omega (arith, size)
+  at_most (suc n) ts xs (inr (none, is)) = let size : length xs ≡ 0 = ap length is in omega (arith, size)
+  at_most (suc n) ts xs (inl (front, back, x, cut, w, (middle, last, ys, cut_back, ws, (none, is)))) =
+      let size : length xs ≡ suc (length ys) = ap length is in omega (arith, size, at_most n middle ys ws)
 
 module _ {T A : Type 0} {begins between : Sight T} (follows : Sight T) (passes : T → Bool) (rule : Rule T A) (good : Good T A begins between rule) (some : HasNoEmpty rule)
     (opens : IsWithin begins (sees passes)) (goes_on : IsWithin (or_else begins follows) between) (apart : Excludes passes follows) where
@@ -122,48 +110,12 @@ module _ {T A : Type 0} {begins between : Sight T} (follows : Sight T) (passes :
       (then_good rule (λ x. do xs ← times n passes rule; pure (x ∷ xs)) good (λ x. then_good (times n passes rule) (λ xs. pure (x ∷ xs)) (times_good n) (λ xs. pure_good (x ∷ xs) follows) (λ o e. e)) goes_on)
       (pure_good [] follows) opens apart
 
-  same_reading : (n m : ℕ) (ts : List T) → length ts ≤ n → length ts ≤ m → (bounded passes rule n).read ts ≡ (bounded passes rule m).read ts
-  same_reading n m ts a b = enough passes rule (shrinks_by rule good some) n m ts a b
+  -- Several times
 
-  starts : (front rest : List T) (xs : List A) → AreWords rule.words front xs → follows (first rest) ≡ true → or_else begins follows (first (front ++ rest)) ≡ true
-  starts front rest xs w ok = (times_good (length xs)).starts front rest xs (times_words passes rule (length xs) front xs w (omega arith)) ok
-
-  again : (front rest : List T) (xs : List A) → AreWords rule.words front xs → follows (first rest) ≡ true → (many passes rule).read (front ++ rest) ≡ Took xs rest
-  again front rest xs w ok =
-      let n : ℕ = length (front ++ rest) in
-      let parts : length (front ++ rest) ≡ length front + length rest = length-append front rest in
-      (times_good n).again front rest xs (times_words passes rule n front xs w (omega (arith, parts, few passes rule some front xs w))) ok
-
-  -- the part that is taken doesn't depend on the bound
-  taken : (ts rest : List T) (xs : List A) → (many passes rule).read ts ≡ Took xs rest → Taken T (List A) (bounded passes rule (length ts)) ts xs rest → Taken T (List A) (many passes rule) ts xs rest
-  taken ts rest xs e t = record { front = t.front; whole = t.whole; reads = words_of passes rule (length ts) t.front xs t.reads; stays = stays } where
-    stays : (us : List T) → first us ≡ first rest → (many passes rule).read (t.front ++ us) ≡ Took xs us
-    stays us same =
-        let n : ℕ = length ts + length (t.front ++ us) in
-        let e_n : (bounded passes rule n).read ts ≡ Took xs rest = same_reading n (length ts) ts (omega arith) (omega arith) ∙ e in
-        let u : Taken T (List A) (bounded passes rule n) ts xs rest = (times_good n).took ts rest xs e_n in
-        let one_front : t.front ≡ u.front = append_cancel_right t.front u.front rest (sym t.whole ∙ u.whole) in
-        let read_n : (bounded passes rule n).read (t.front ++ us) ≡ Took xs us = ap (λ vs. (bounded passes rule n).read (vs ++ us)) one_front ∙ u.stays us same in
-        same_reading (length (t.front ++ us)) n (t.front ++ us) (omega arith) (omega arith) ∙ read_n
-
-  blocked : (ts rest : List T) → (many passes rule).read ts ≡ Stuck rest → Blocked T (List A) (bounded passes rule (length ts)) ts rest → Blocked T (List A) (many passes rule) ts rest
-  blocked ts rest e b = record { front = b.front; whole = b.whole; more = b.more; value = b.value; goes_on = words_of passes rule (length ts) (b.front ++ b.more) b.value b.goes_on; refuses = refuses } where
-    refuses : (t : T) (after us : List T) → rest ≡ t ∷ after → (many passes rule).read (b.front ++ t ∷ us) ≡ Stuck (t ∷ us)
-    refuses t after us same =
-        let n : ℕ = length ts + length (b.front ++ t ∷ us) in
-        let e_n : (bounded passes rule n).read ts ≡ Stuck rest = same_reading n (length ts) ts (omega arith) (omega arith) ∙ e in
-        let u : Blocked T (List A) (bounded passes rule n) ts rest = (times_good n).stuck ts rest e_n in
-        let one_front : b.front ≡ u.front = append_cancel_right b.front u.front rest (sym b.whole ∙ u.whole) in
-        let read_n : (bounded passes rule n).read (b.front ++ t ∷ us) ≡ Stuck (t ∷ us) = ap (λ vs. (bounded passes rule n).read (vs ++ t ∷ us)) one_front ∙ u.refuses t after us same in
-        same_reading (length (b.front ++ t ∷ us)) n (b.front ++ t ∷ us) (omega arith) (omega arith) ∙ read_n
+  counted : (n m : ℕ) → n ≤ m → (ts : List T) (xs : List A) → (times n passes rule).words ts xs → (times m passes rule).words ts xs
+  counted n m less ts xs w = times_words passes rule m ts xs (words_of passes rule n ts xs w) (omega (arith, less, at_most passes rule n ts xs w))
 
   pub repeat_good : Good T (List A) (or_else begins follows) follows (repeat passes rule)
-  repeat_good = record {
-    starts = starts;
-    again = again;
-    took = λ ts rest xs e. taken ts rest xs e ((times_good (length ts)).took ts rest xs e);
-    stuck = λ ts rest e. blocked ts rest e ((times_good (length ts)).stuck ts rest e);
-    shortest = [];
-    meaning = [];
-    word = refl;
-  }
+  repeat_good = said_otherwise (unbounded (λ n. times n passes rule)) (repeat passes rule)
+      (unbounded_good (λ n. times n passes rule) times_good counted (λ n m ts a b. enough passes rule (shrinks_by rule good some) n m ts a b))
+      (λ ts xs w. words_of passes rule w.0 ts xs w.1) (λ ts xs w. (length xs, times_words passes rule (length xs) ts xs w (omega arith))) (λ ts. refl)

@@ -95,6 +95,14 @@ repeat passes rule = record {
   read = λ ts. (times (length ts) passes rule).read ts;
 }
 
+-- A rule with a bound, as on how deep its words are nested, for any bound. The reading takes the number of tokens, which is
+-- enough where each level takes a token.
+abbrev pub unbounded : {T A : Type 0} → (ℕ → Rule T A) → Rule T A
+unbounded within = record {
+  words = λ ts a. (n : ℕ) × (within n).words ts a;
+  read = λ ts. (within (length ts)).read ts;
+}
+
 -- A rule, or nothing.
 abbrev pub optional : {T A : Type 0} → (T → Bool) → Rule T A → Rule T (Option A)
 optional passes rule = either passes (do value ← rule; pure (Some value)) (pure None)
