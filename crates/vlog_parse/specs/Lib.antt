@@ -1,0 +1,5 @@
+pub mod Sorts
+pub mod Lexemes
+pub mod Expressions
+pub mod Items
+pub mod Design

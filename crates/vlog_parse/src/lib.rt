@@ -2,6 +2,8 @@
 //! (IEEE 1364-2005, clauses 5, 6, 7 and 12), in this profile.
 #![tactic(auto)]
 
+mod parts;
+mod sort;
 mod tree;
 
 pub use tree::{Conns, Decl, Dir, Expr, Gate, GateKind, Inst, Item, Module, Range, Tree, Value};
