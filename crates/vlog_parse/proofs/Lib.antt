@@ -1,0 +1,2 @@
+mod SortLaws
+mod ExpressionLaws
