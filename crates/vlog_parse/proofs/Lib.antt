@@ -1,2 +1,3 @@
 mod SortLaws
 mod ExpressionLaws
+mod ItemLaws
