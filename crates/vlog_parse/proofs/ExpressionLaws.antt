@@ -1,8 +1,7 @@
 -- The rules of names, ranges and expressions are exact.
-use Rattle.std.specs.Prelude.{◌≡◌, refl, ℕ, zero, suc, ◌+◌, ◌-◌, ◌≤◌, Bool, true, false, not, List, [], ◌∷◌, ◌++◌, length, Option, Some, None, cond}
-use Rattle.std.proofs.Common.{sym, ◌∙◌, ap, subst, inl, inr, ◌⊎◌, arith}
-use Rattle.grammar.specs.Rule.{Outcome, Rule, looks, term, token, pure, ◌>>=◌, either, list, unbounded}
-use Rattle.grammar.specs.Rule.Outcome.{Took, Stuck}
+use Rattle.std.specs.Prelude.{◌≡◌, refl, ℕ, zero, suc, ◌+◌, ◌-◌, ◌≤◌, Bool, true, not, List, [], ◌∷◌, length, cond}
+use Rattle.std.proofs.Common.{ap, subst, inl, inr, arith}
+use Rattle.grammar.specs.Rule.{Rule, looks, pure, ◌>>=◌}
 use Rattle.grammar.specs.Good.{Sight, IsWithin, Excludes, sees, anything, or_else, Good}
 use Rattle.grammar.specs.TokenLaws.{term_good, token_good, pure_good}
 use Rattle.grammar.specs.SequenceLaws.{then_good}
@@ -12,7 +11,7 @@ use Rattle.grammar.specs.ListLaws.{list_good}
 use Rattle.grammar.specs.NestLaws.{IsPart, list_rises, SameTo, Keeps, good_keeps, then_same, behind_same, list_same}
 use Rattle.vlog_parse.specs.declared.tree.Range.{Range}
 use Rattle.vlog_parse.specs.declared.tree.Expr.{Expr}
-use Rattle.vlog_parse.specs.declared.tree.Expr.TheVariants.{Whole, Bit, Part, Const, Concat}
+use Rattle.vlog_parse.specs.declared.tree.Expr.TheVariants.{Concat}
 use Rattle.vlog_parse.specs.declared.parts.Named.{Named}
 use Rattle.vlog_parse.specs.declared.sort.Sort.{Sort}
 use Rattle.vlog_parse.specs.declared.sort.Sort.TheVariants.{Name, Number, Sized, LeftBracket, RightBracket, LeftBrace, RightBrace, Comma, Colon}
@@ -75,7 +74,7 @@ pub reference_good : Good Lexeme Expr (sees (is Name)) no_select reference
 reference_good =
     then_good _ _ name_good
     (λ n. either_good (is LeftBracket) _ _ (widened (λ o e. e) (λ o e. refl) (select_good n)) (pure_good _ no_select) (λ o e. e)
-      (excludes (is LeftBracket) no_select (λ t. refl) (λ t. refl) refl))
+    (excludes (is LeftBracket) no_select (λ t. refl) (λ t. refl) refl))
     (λ o e. refl)
 
 pub constant_good : Good Lexeme Expr (sees (is Sized)) anything constant
@@ -95,7 +94,7 @@ pub concatenation_good : (expr : Rule Lexeme Expr) → Good Lexeme Expr begins_e
 concatenation_good expr good =
     then_good _ _ (mark_good LeftBrace)
     (λ _. then_good _ _ (args_good expr (sees (is RightBrace)) good (within (sees (is RightBrace)) no_select (λ t. refl) (λ t. refl) refl refl)
-      (excludes (is Comma) (sees (is RightBrace)) (λ t. refl) (λ t. refl) refl))
+    (excludes (is Comma) (sees (is RightBrace)) (λ t. refl) (λ t. refl) refl))
     (λ parts. then_good _ _ (mark_good RightBrace) (λ _. pure_good _ anything) (λ o e. refl))
     (λ o e. e)) (λ o e. refl)
 
@@ -103,7 +102,7 @@ pub expr_over_good : (expr : Rule Lexeme Expr) → Good Lexeme Expr begins_expre
 expr_over_good expr good =
     widened (within (or_else (sees (is LeftBrace)) (or_else (sees (is Name)) (sees (is Sized)))) begins_expression (λ t. refl) (λ t. refl) refl refl) (λ o e. e)
     (either_good (is LeftBrace) _ _ (widened (λ o e. e) (λ o e. refl) (concatenation_good expr good)) operand_good (λ o e. e)
-      (excludes (is LeftBrace) (or_else (sees (is Name)) (sees (is Sized))) (λ t. refl) (λ t. refl) refl))
+    (excludes (is LeftBrace) (or_else (sees (is Name)) (sees (is Sized))) (λ t. refl) (λ t. refl) refl))
 
 pub within_good : (n : ℕ) → Good Lexeme Expr begins_expression no_select (expr_within n)
 within_good zero = widened (within (or_else (sees (is Name)) (sees (is Sized))) begins_expression (λ t. refl) (λ t. refl) refl refl) (λ o e. e) operand_good
@@ -145,13 +144,13 @@ rises n m less ts e w =
 over_same : (n : ℕ) (one other : Rule Lexeme Expr) → SameTo n one other → Keeps one → Keeps (args one) → SameTo (suc n) (expr_over one) (expr_over other)
 over_same n one other alike keeps args_keep ts less =
     ap (λ o. cond (looks (is LeftBrace) ts) o (operand.read ts)) (behind_same n (is LeftBrace) (λ _. tt {0}) (λ _. inside one) (λ _. inside other) (λ _. parts) ts less) where
-  parts : SameTo n (inside one) (inside other)
-  parts = then_same n (args one) (args other) closed closed (list_same n (is Comma) one other alike keeps) args_keep (λ x us _. refl)
+      parts : SameTo n (inside one) (inside other)
+      parts = then_same n (args one) (args other) closed closed (list_same n (is Comma) one other alike keeps) args_keep (λ x us _. refl)
 
 args_keep : (n : ℕ) → Keeps (args (expr_within n))
 args_keep n = good_keeps (args (expr_within n))
     (args_good (expr_within n) (sees (is RightBrace)) (within_good n) (within (sees (is RightBrace)) no_select (λ t. refl) (λ t. refl) refl refl)
-      (excludes (is Comma) (sees (is RightBrace)) (λ t. refl) (λ t. refl) refl))
+    (excludes (is Comma) (sees (is RightBrace)) (λ t. refl) (λ t. refl) refl))
 
 same_reading : (n m : ℕ) (ts : List Lexeme) → length ts ≤ n → length ts ≤ m → (expr_within n).read ts ≡ (expr_within m).read ts
 same_reading zero zero ts a b = refl

@@ -1,9 +1,8 @@
 -- The rules of a module's items are exact.
-use Rattle.std.specs.Prelude.{◌≡◌, refl, Bool, true, List, [], ◌∷◌, Option, Some, None}
-use Rattle.ila_base.specs.declared.place.Place.{Place}
-use Rattle.grammar.specs.Rule.{Rule, first, term, token, pure, ◌>>=◌, either, optional, list}
-use Rattle.grammar.specs.Good.{Sight, IsWithin, Excludes, sees, anything, or_else, Good}
-use Rattle.grammar.specs.TokenLaws.{term_good, token_good, pure_good}
+use Rattle.std.specs.Prelude.{refl, List, [], Option}
+use Rattle.grammar.specs.Rule.{Rule, list}
+use Rattle.grammar.specs.Good.{Sight, sees, anything, or_else, Good}
+use Rattle.grammar.specs.TokenLaws.{term_good, pure_good}
 use Rattle.grammar.specs.SequenceLaws.{then_good}
 use Rattle.grammar.specs.ChoiceLaws.{widened, either_good, optional_good}
 use Rattle.grammar.specs.ListLaws.{list_good}
@@ -17,7 +16,6 @@ use Rattle.vlog_parse.specs.declared.tree.Value.{Value}
 use Rattle.vlog_parse.specs.declared.parts.Linked.{Linked}
 use Rattle.vlog_parse.specs.declared.parts.Named.{Named}
 use Rattle.vlog_parse.specs.declared.parts.Terminals.{Terminals}
-use Rattle.vlog_parse.specs.declared.sort.Sort.{Sort}
 use Rattle.vlog_parse.specs.declared.sort.Sort.TheVariants.{Name, Input, Wire, Assign, And, Number, LeftParenthesis, RightParenthesis, LeftBracket, Comma, Semicolon, Dot, Equals, Hash}
 use Rattle.vlog_parse.specs.Sorts.{is_direction, is_gate, begins_item, begins_expr, is_value}
 use Rattle.vlog_parse.specs.Lexemes.{Lexeme}
@@ -92,7 +90,7 @@ some_params_good : Good Lexeme (List (List _ × Value)) dot_or_end (sees (is Rig
 some_params_good =
     either_good (is Dot) _ _
     (list_good (sees (is RightParenthesis)) (is Comma) (sample Comma) refl param param_good (λ o e. refl) (λ o e. refl)
-      (excludes (is Comma) (sees (is RightParenthesis)) (λ t. refl) (λ t. refl) refl))
+    (excludes (is Comma) (sees (is RightParenthesis)) (λ t. refl) (λ t. refl) refl))
     (pure_good [] (sees (is RightParenthesis))) (λ o e. e)
     (excludes (is Dot) (sees (is RightParenthesis)) (λ t. refl) (λ t. refl) refl)
 
@@ -102,13 +100,16 @@ params_good =
     (widened (λ o e. e) (λ o e. refl) params_list_good)
     (pure_good [] (sees (is Name))) (λ o e. e)
     (excludes (is Hash) (sees (is Name)) (λ t. refl) (λ t. refl) refl) where
-  params_list_good : Good Lexeme (List (List _ × Value)) (sees (is Hash)) anything params_list
-  params_list_good =
-      then_good _ _ (mark_good Hash)
-      (λ _. then_good _ _ (mark_good LeftParenthesis)
-      (λ _. then_good _ _ some_params_good
-      (λ found. then_good _ _ (mark_good RightParenthesis) (λ _. pure_good _ anything) (λ o e. refl))
-      (λ o e. e)) (λ o e. refl)) (λ o e. refl)
+      params_list_good : Good Lexeme (List (List _ × Value)) (sees (is Hash)) anything params_list
+      params_list_good =
+          then_good _ _ (mark_good Hash)
+          (λ _. then_good _ _ (mark_good LeftParenthesis)
+          (λ _. then_good _ _ some_params_good
+          (λ found. then_good _ _ (mark_good RightParenthesis) (λ _. pure_good _ anything) (λ o e. refl))
+          (λ o e. e)) (λ o e. refl)) (λ o e. refl)
+
+abbrev pub begins_any_item : Sight Lexeme
+begins_any_item = sees (of_sort begins_item)
 
 module _ (expr : Rule Lexeme Expr) (good : Good Lexeme Expr begins_expression no_select expr) where
   pair_good : Good Lexeme Item begins_expression no_select (pair expr)
@@ -122,9 +123,9 @@ module _ (expr : Rule Lexeme Expr) (good : Good Lexeme Expr begins_expression no
   assign_items_good =
       then_good _ _ (mark_good Assign)
       (λ _. then_good _ _
-        (list_good (sees (is Semicolon)) (is Comma) (sample Comma) refl (pair expr) pair_good
-          (within (sees (is Comma)) no_select (λ t. refl) (λ t. refl) refl refl) (within (sees (is Semicolon)) no_select (λ t. refl) (λ t. refl) refl refl)
-          (excludes (is Comma) (sees (is Semicolon)) (λ t. refl) (λ t. refl) refl))
+      (list_good (sees (is Semicolon)) (is Comma) (sample Comma) refl (pair expr) pair_good
+      (within (sees (is Comma)) no_select (λ t. refl) (λ t. refl) refl refl) (within (sees (is Semicolon)) no_select (λ t. refl) (λ t. refl) refl refl)
+      (excludes (is Comma) (sees (is Semicolon)) (λ t. refl) (λ t. refl) refl))
       (λ pairs. then_good _ _ (mark_good Semicolon) (λ _. pure_good _ anything) (λ o e. refl))
       (λ o e. e)) (λ o e. refl)
 
@@ -145,8 +146,8 @@ module _ (expr : Rule Lexeme Expr) (good : Good Lexeme Expr begins_expression no
   gate_items_good =
       then_good _ _ gate_good
       (λ kind. then_good _ _
-        (list_good (sees (is Semicolon)) (is Comma) (sample Comma) refl (terminals expr) terminals_good (λ o e. refl) (λ o e. refl)
-          (excludes (is Comma) (sees (is Semicolon)) (λ t. refl) (λ t. refl) refl))
+      (list_good (sees (is Semicolon)) (is Comma) (sample Comma) refl (terminals expr) terminals_good (λ o e. refl) (λ o e. refl)
+      (excludes (is Comma) (sees (is Semicolon)) (λ t. refl) (λ t. refl) refl))
       (λ gates. then_good _ _ (mark_good Semicolon) (λ _. pure_good _ anything) (λ o e. refl))
       (λ o e. e)) (λ o e. refl)
 
@@ -167,8 +168,8 @@ module _ (expr : Rule Lexeme Expr) (good : Good Lexeme Expr begins_expression no
   by_name_good : Good Lexeme Conns (sees (is Dot)) (sees (is RightParenthesis)) (conns_by_name expr)
   by_name_good =
       then_good _ _
-        (list_good (sees (is RightParenthesis)) (is Comma) (sample Comma) refl (conn expr) conn_good (λ o e. refl) (λ o e. refl)
-          (excludes (is Comma) (sees (is RightParenthesis)) (λ t. refl) (λ t. refl) refl))
+      (list_good (sees (is RightParenthesis)) (is Comma) (sample Comma) refl (conn expr) conn_good (λ o e. refl) (λ o e. refl)
+      (excludes (is Comma) (sees (is RightParenthesis)) (λ t. refl) (λ t. refl) refl))
       (λ pins. pure_good _ (sees (is RightParenthesis))) (λ o e. e)
 
   by_place_good : Good Lexeme Conns begins_expression (sees (is RightParenthesis)) (conns_by_place expr)
@@ -181,7 +182,7 @@ module _ (expr : Rule Lexeme Expr) (good : Good Lexeme Expr begins_expression no
   conns_good =
       either_good (is Dot) _ _ by_name_good
       (either_good (of_sort begins_expr) _ _ by_place_good (pure_good _ (sees (is RightParenthesis))) (λ o e. e)
-        (excludes (of_sort begins_expr) (sees (is RightParenthesis)) (λ t. refl) (λ t. refl) refl))
+      (excludes (of_sort begins_expr) (sees (is RightParenthesis)) (λ t. refl) (λ t. refl) refl))
       (λ o e. e)
       (excludes (is Dot) (or_else begins_expression (sees (is RightParenthesis))) (λ t. refl) (λ t. refl) refl)
 
@@ -198,24 +199,18 @@ module _ (expr : Rule Lexeme Expr) (good : Good Lexeme Expr begins_expression no
       then_good _ _ name_good
       (λ cell. then_good _ _ params_good
       (λ found. then_good _ _
-        (list_good (sees (is Semicolon)) (is Comma) (sample Comma) refl (linked expr) linked_good (λ o e. refl) (λ o e. refl)
-          (excludes (is Comma) (sees (is Semicolon)) (λ t. refl) (λ t. refl) refl))
+      (list_good (sees (is Semicolon)) (is Comma) (sample Comma) refl (linked expr) linked_good (λ o e. refl) (λ o e. refl)
+      (excludes (is Comma) (sees (is Semicolon)) (λ t. refl) (λ t. refl) refl))
       (λ insts. then_good _ _ (mark_good Semicolon) (λ _. pure_good _ anything) (λ o e. refl))
       (λ o e. e)) (λ o e. e)) (λ o e. refl)
-
-  abbrev pub begins_any_item : Sight Lexeme
-  begins_any_item = sees (of_sort begins_item)
-
-  gate_or_name : Sight Lexeme
-  gate_or_name = or_else (sees (of_sort is_gate)) (sees (is Name))
 
   pub item_good : Good Lexeme (List Item) begins_any_item anything (item expr)
   item_good =
       widened (within (or_else (sees (of_sort is_direction)) (or_else (sees (is Wire)) (or_else (sees (is Assign)) (or_else (sees (of_sort is_gate)) (sees (is Name)))))) begins_any_item (λ t. refl) (λ t. refl) refl refl) (λ o e. e)
       (either_good (of_sort is_direction) _ _ port_items_good
-        (either_good (is Wire) _ _ net_items_good
-          (either_good (is Assign) _ _ assign_items_good
-            (either_good (of_sort is_gate) _ _ gate_items_good inst_items_good (λ o e. e) (excludes (of_sort is_gate) (sees (is Name)) (λ t. refl) (λ t. refl) refl))
-            (λ o e. e) (excludes (is Assign) (or_else (sees (of_sort is_gate)) (sees (is Name))) (λ t. refl) (λ t. refl) refl))
-          (λ o e. e) (excludes (is Wire) (or_else (sees (is Assign)) (or_else (sees (of_sort is_gate)) (sees (is Name)))) (λ t. refl) (λ t. refl) refl))
-        (λ o e. e) (excludes (of_sort is_direction) (or_else (sees (is Wire)) (or_else (sees (is Assign)) (or_else (sees (of_sort is_gate)) (sees (is Name))))) (λ t. refl) (λ t. refl) refl))
+      (either_good (is Wire) _ _ net_items_good
+      (either_good (is Assign) _ _ assign_items_good
+      (either_good (of_sort is_gate) _ _ gate_items_good inst_items_good (λ o e. e) (excludes (of_sort is_gate) (sees (is Name)) (λ t. refl) (λ t. refl) refl))
+      (λ o e. e) (excludes (is Assign) (or_else (sees (of_sort is_gate)) (sees (is Name))) (λ t. refl) (λ t. refl) refl))
+      (λ o e. e) (excludes (is Wire) (or_else (sees (is Assign)) (or_else (sees (of_sort is_gate)) (sees (is Name)))) (λ t. refl) (λ t. refl) refl))
+      (λ o e. e) (excludes (of_sort is_direction) (or_else (sees (is Wire)) (or_else (sees (is Assign)) (or_else (sees (of_sort is_gate)) (sees (is Name))))) (λ t. refl) (λ t. refl) refl))

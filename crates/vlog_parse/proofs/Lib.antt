@@ -1,3 +1,4 @@
 mod SortLaws
 mod ExpressionLaws
 mod ItemLaws
+mod DesignLaws

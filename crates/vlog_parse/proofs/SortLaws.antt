@@ -1,6 +1,6 @@
 -- What may come first, told by the sorts of tokens: such facts are shown by going through all sorts.
-use Rattle.std.specs.Prelude.{◌≡◌, refl, ℕ, zero, suc, Bool, true, false, not, ◌&&◌, ◌||◌, List, [], ◌∷◌, drop, Option, Some, None}
-use Rattle.std.proofs.Common.{sym, ◌∙◌, ap}
+use Rattle.std.specs.Prelude.{◌≡◌, refl, ℕ, zero, suc, Bool, true, false, not, ◌&&◌, List, [], ◌∷◌, drop, Some, None}
+use Rattle.std.proofs.Common.{sym, ◌∙◌}
 use Rattle.grammar.specs.Good.{Sight, IsWithin, Excludes}
 use Rattle.grammar.specs.Outcomes.{no_end}
 use Rattle.vlog_parse.specs.declared.sort.Sort.{Sort}

@@ -104,5 +104,5 @@ expr_within (suc n) = expr_over (expr_within n)
 abbrev pub expr : Rule Lexeme Expr
 expr = record {
   words = λ ts e. (n : ℕ) × (expr_within n).words ts e;
-  read = λ ts. (expr_within (length ts)).read ts
+  read = λ ts. (expr_within (length ts)).read ts;
 }
