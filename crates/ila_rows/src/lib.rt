@@ -1,11 +1,24 @@
-//! Tables of what is given and what must come out: the tokens of texts, and whole commands over memory.
+//! Tables of what is given and what must come out: the tokens of texts, the places where texts are
+//! refused, the trees of texts, and whole commands over memory.
 #![tactic(auto)]
 
 #[cfg(test)]
 mod commands;
+#[cfg(test)]
+mod marked;
+#[cfg(test)]
+mod prefixes;
 #[cfg(test)]
 mod rows;
 #[cfg(test)]
 mod shown;
 #[cfg(test)]
 mod single;
+#[cfg(test)]
+mod syntax;
+#[cfg(test)]
+mod texts;
+#[cfg(test)]
+mod tree_text;
+#[cfg(test)]
+mod trees;

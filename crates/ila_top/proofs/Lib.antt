@@ -4,4 +4,4 @@ pub mod Lines
 pub mod RowLaws
 pub mod Seen
 pub mod Simulation
-pub mod Words
+pub mod Refused

@@ -11,7 +11,7 @@ use Rattle.ila_base.specs.declared.refusal.NetRefusal.{NetRefusal}
 use Rattle.ila_base.specs.declared.refusal.NetRefusal.TheVariants as net
 use Rattle.ila_base.specs.declared.refusal.StimRefusal.{StimRefusal}
 use Rattle.ila_base.specs.declared.refusal.StimRefusal.TheVariants as stim
-use Rattle.ila_top.specs.FirstForm.{DeclaresInputs}
+use Rattle.ila_top.specs.Reading.{StandsForInputs, IsTextFault}
 use Rattle.ila_top.specs.Rows.{RefusesIfTold, scalars}
 use Rattle.ila_top.specs.declared.status.Status.{Status}
 use Rattle.ila_top.specs.declared.status.Status.TheVariants.{Done, Usage, Netlist, Project, Tsm, Resource, Settings, Stimulus, NoFile, ShelfFault, ReadFault, WriteFault, NoMemory}
@@ -63,17 +63,16 @@ IsLoaded before sim bytes = HoldsIfTold before.files sim.netlist bytes × (lengt
 abbrev pub nowhere : Place
 nowhere = record { line = 0; col = 0 }
 
--- The first place of a text.
-abbrev pub at_start : Place
-at_start = record { line = 1; col = 1 }
+-- The file is longer than allowed, and is refused for that.
+abbrev pub IsTooLong : List ℕ → Option (List File) → NetRefusal → Place → Type 0
+IsTooLong name files refusal place = (refusal ≡ net.Limit limits.FileBytes (most_bytes + 1)) × (place ≡ nowhere) × LongerIfTold files name
 
 -- Why a netlist's file was not loaded: the shelf failed, it has no such file, or the file is longer
 -- than allowed.
 abbrev pub LoadCause : List ℕ → Option (List File) → ℕ → ℕ → Status → Type 0
 LoadCause name files faults_before faults_after ShelfFault = Rose faults_before faults_after
 LoadCause name files faults_before faults_after (NoFile missing) = (missing ≡ name) × LacksIfTold files name
-LoadCause name files faults_before faults_after (Netlist (net.Limit limits.FileBytes count) place) =
-    (count ≡ most_bytes + 1) × (place ≡ nowhere) × LongerIfTold files name
+LoadCause name files faults_before faults_after (Netlist refusal place) = IsTooLong name files refusal place
 LoadCause name files faults_before faults_after NoMemory = ⊤
 LoadCause name files faults_before faults_after _ = ⊥
 
@@ -105,21 +104,17 @@ exit_code_of WriteFault = 10
 exit_code_of NoMemory = 11
 exit_code_of (NoFile _) = 12
 
--- The netlist's file has these bytes, and not more than allowed, and they declare these data inputs.
+-- The netlist's file has these bytes, and not more than allowed, and they stand for a design with these data inputs.
 pub record IsRead (sim : SimWords) (before : Outside) (inputs : List (List ℕ)) : Type 0 where
   pub bytes : List ℕ
   pub held : HoldsIfTold before.files sim.netlist bytes
   pub short : length bytes ≤ most_bytes
-  pub declares : DeclaresInputs bytes sim.top sim.clock inputs
+  pub stands_for : StandsForInputs bytes sim.top sim.clock inputs
 
--- Why the netlist of `sim` is refused: its file is longer than allowed, or its text is not in the form
--- that is read, at the text's first place.
+-- Why the netlist of `sim` is refused: its file is longer than allowed, or its text is refused.
 abbrev pub NetCause : SimWords → Outside → NetRefusal → Place → Type 0
-NetCause sim before (net.Limit limits.FileBytes count) place =
-    (count ≡ most_bytes + 1) × (place ≡ nowhere) × LongerIfTold before.files sim.netlist
-NetCause sim before net.Syntax place = (place ≡ at_start)
-    × ((bytes : List ℕ) × HoldsIfTold before.files sim.netlist bytes × (length bytes ≤ most_bytes))
-NetCause sim before _ place = ⊥
+NetCause sim before refusal place = IsTooLong sim.netlist before.files refusal place
+    ⊎ ((bytes : List ℕ) × HoldsIfTold before.files sim.netlist bytes × (length bytes ≤ most_bytes) × IsTextFault bytes (record { refusal = refusal; place = place }))
 
 -- Why `sim` with these words answers as it does.
 abbrev pub SimCause : SimWords → Outside → Outside → Status → Type 0
@@ -162,9 +157,3 @@ pub record Stands (before after : Outside) (status : Status) : Type 0 where
   pub read_faults : before.read_faults ≤ after.read_faults
   pub write_faults : before.write_faults ≤ after.write_faults
   pub streams : Leaves before after status
-
--- a text that is not in the form that is read, or want of memory
-abbrev pub IsUnread : Status → Type 0
-IsUnread (Netlist net.Syntax place) = place ≡ at_start
-IsUnread NoMemory = ⊤
-IsUnread _ = ⊥

@@ -1,63 +1,37 @@
--- A netlist's text as words, and the inputs that it declares.
-use Rattle.std.specs.Prelude.{◌≡◌, ◌≢◌, ℕ, ◌<◌, get_or, Bool, ◌&&◌, ◌||◌, not, ◌⊎◌, List, [], ◌∷◌, ◌++◌, map, filter, length, codes, ◌==◌, nat_le, slice_index, true, false, if◌then◌else◌}
-use Rattle.std.specs.List.{flat_map, AllPass, slice_split}
+-- The plainest netlists, and the inputs that they declare.
+use Rattle.std.specs.Prelude.{◌≡◌, ◌≢◌, ℕ, ◌<◌, get_or, Bool, ◌&&◌, not, true, false, List, [], ◌∷◌, length, Option, Some, None, if◌then◌else◌, is_none}
+use Rattle.std.specs.List.{flat_map, list_all}
 use Rattle.std.specs.Str.{bytes_eq}
+use Rattle.vlog_parse.specs.declared.tree.Decl.{Decl}
+use Rattle.vlog_parse.specs.declared.tree.Dir.{Dir}
+use Rattle.vlog_parse.specs.declared.tree.Dir.TheVariants.{Input, Output}
+use Rattle.vlog_parse.specs.declared.tree.Item.{Item}
+use Rattle.vlog_parse.specs.declared.tree.Item.TheVariants.{Net, Assign, Gate, Inst}
+use Rattle.vlog_parse.specs.declared.tree.Module.{Module}
+use Rattle.vlog_parse.specs.declared.tree.Tree.{Tree}
 
--- white space (IEEE 1364-2005, 3.2)
-abbrev pub is_blank : ℕ → Bool
-is_blank byte = byte == 32 || byte == 9 || byte == 10 || byte == 13 || byte == 12
+abbrev pub is_input : Option Dir → Bool
+is_input None = false
+is_input (Some Input) = true
+is_input (Some Output) = false
 
--- a byte of a word: a letter, a digit, or one of _ $ '
-abbrev pub is_word_byte : ℕ → Bool
-is_word_byte byte =
-    (nat_le 97 byte && nat_le byte 122) || (nat_le 65 byte && nat_le byte 90) || (nat_le 48 byte && nat_le byte 57)
-    || byte == 95 || byte == 36 || byte == 39
+-- the data input that an item declares: an input but the clock
+abbrev pub data_inputs : List ℕ → Item → List (List ℕ)
+data_inputs clock (Net decl) = if is_input decl.dir && not (bytes_eq decl.name clock) then decl.name ∷ [] else []
+data_inputs clock item = []
 
--- one of the marks ( ) , ; .
-abbrev pub is_mark : ℕ → Bool
-is_mark byte = byte == 40 || byte == 41 || byte == 44 || byte == 59 || byte == 46
+-- an item that declares no vector
+abbrev pub is_scalar : Item → Bool
+is_scalar (Net decl) = is_none decl.range
+is_scalar item = true
 
--- what does not go on with a word's byte
-abbrev pub EndsWord : List ℕ → Type 0
-EndsWord rest = 0 < length rest → is_word_byte (slice_index rest 0) ≡ false
-
--- A word is a mark by itself, or a longest run of word bytes.
-abbrev pub IsWord : List ℕ → List ℕ → Type 0
-IsWord word rest = ((mark : ℕ) × (word ≡ mark ∷ []) × (is_mark mark ≡ true))
-    ⊎ ((0 < length word) × AllPass is_word_byte word × EndsWord rest)
-
--- The text is these words, with white space between them.
-abbrev pub IsSpelled : List ℕ → List (List ℕ) → Type 0
-IsSpelled text [] = AllPass is_blank text
-IsSpelled text (word ∷ words) = (blanks : List ℕ) × (rest : List ℕ) × (text ≡ blanks ++ (word ++ rest))
-    × AllPass is_blank blanks × IsWord word rest × IsSpelled rest words
-
--- the words between semicolons
-abbrev pub statements_of : List (List ℕ) → List (List (List ℕ))
-statements_of words = slice_split (λ word. bytes_eq word (codes ";")) words
-
--- the data inputs that a statement declares: the words behind `input`, but commas and the clock
-abbrev pub is_data : List ℕ → List ℕ → Bool
-is_data clock word = not (bytes_eq word (codes ",")) && not (bytes_eq word clock)
-
-abbrev pub data_inputs : List ℕ → List (List ℕ) → List (List ℕ)
-data_inputs clock [] = []
-data_inputs clock (word ∷ words) = if bytes_eq word (codes "input") then filter (is_data clock) words else []
-
--- The parts are those of one module: the first begins with `module` and the module's name, and the
--- last is `endmodule` (IEEE 1364-2005, 12.1).
-abbrev pub IsModule : List (List (List ℕ)) → List ℕ → List (List ℕ) → List (List (List ℕ)) → Type 0
-IsModule parts top ports statements = parts ≡ (codes "module" ∷ top ∷ ports) ∷ statements ++ (codes "endmodule" ∷ []) ∷ []
-
--- The data inputs of the one module of a text: those that its statements declare, in text order, but
--- the clock.
-pub record DeclaresInputs (text top clock : List ℕ) (inputs : List (List ℕ)) : Type 0 where
-  pub words : List (List ℕ)
-  pub spelled : IsSpelled text words
-  pub ports : List (List ℕ)
-  pub statements : List (List (List ℕ))
-  pub parts : IsModule (statements_of words) top ports statements
-  pub all : inputs ≡ flat_map (data_inputs clock) statements
+-- The data inputs of a design of one module: those that its items declare, in text order, but the clock.
+pub record DeclaresInputs (tree : Tree) (top clock : List ℕ) (inputs : List (List ℕ)) : Type 0 where
+  pub top_module : Module
+  pub one : tree.modules ≡ top_module ∷ []
+  pub named : top_module.name ≡ top
+  pub all : inputs ≡ flat_map (data_inputs clock) top_module.items
+  pub scalars : list_all is_scalar top_module.items ≡ true
 
 -- no name stands twice
 abbrev pub AllDiffer : List (List ℕ) → Type 0

@@ -1,4 +1,5 @@
 pub mod ErrorLine
 pub mod FirstForm
+pub mod Reading
 pub mod Rows
 pub mod Answers

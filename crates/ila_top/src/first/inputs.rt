@@ -1,55 +1,57 @@
-ghost use Rattle.std.specs.Prelude.{◌≡◌, ◌++◌, OnOk, IfOk, filter, map};
-ghost use Rattle.std.specs.List.{flat_map};
+ghost use Rattle.std.specs.Prelude.{◌≡◌, ◌++◌, OnOk, IfOk};
+ghost use Rattle.std.specs.List.{flat_map, list_all};
 ghost use Rattle.ila_top.specs.FirstForm as form;
 
 use ila_base::{Name, NoMemory};
 use std::alloc::Global;
+use vlog_parse::{Decl, Dir, Item};
 
-/// The data inputs that the statements declare, in text order.
-pub fn data_inputs(
-    alloc: Global,
-    statements: &[&[Name]],
-    clock: &[u8],
-) -> Result<Vec<Name>, NoMemory>
-    ensures { IfOk result (λ names. names.items ≡ flat_map (λ statement. form.data_inputs clock.now statement.now) statements.now) }
+/// Whether no item declares a vector.
+pub fn are_scalar(items: &[Item]) -> bool
+    ensures { result ≡ list_all form.is_scalar items.now }
+{
+    items.iter().all(is_scalar)
+}
+
+fn is_scalar(item: &Item) -> bool
+    ensures { result ≡ form.is_scalar item.now }
+{
+    match item {
+        Item::Net(decl) => decl.range.is_none(),
+        _ => true,
+    }
+}
+
+/// The data inputs that the items declare, in text order.
+pub fn data_inputs(alloc: Global, items: &[Item], clock: &[u8]) -> Result<Vec<Name>, NoMemory>
+    ensures { IfOk result (λ names. names.items ≡ flat_map (form.data_inputs clock.now) items.now) }
 {
     let mut names = Vec::new(alloc);
-    for statement in statements {
-        add_inputs(alloc, &mut names, statement, clock)?;
+    for item in items {
+        add_input(alloc, &mut names, item, clock)?;
     }
     Ok(names)
 }
 
-// Adds the data inputs that a statement declares.
-fn add_inputs(
+// Adds the data input that an item declares, if it does.
+fn add_input(
     alloc: Global,
     names: &mut Vec<Name>,
-    statement: &[Name],
+    item: &Item,
     clock: &[u8],
 ) -> Result<(), NoMemory>
-    ensures { OnOk result (names.new.items ≡ names.old.items ++ form.data_inputs clock.now statement.now) }
+    ensures { OnOk result (names.new.items ≡ names.old.items ++ form.data_inputs clock.now item.now) }
 {
-    match statement {
-        [word, declared @ ..] if word.bytes() == b"input".as_slice() => {
-            add_data(alloc, names, declared, clock)
-        }
-        _ => Ok(()),
-    }
-}
-
-// Adds the names among the words that are neither commas nor the clock.
-fn add_data(
-    alloc: Global,
-    names: &mut Vec<Name>,
-    words: &[Name],
-    clock: &[u8],
-) -> Result<(), NoMemory>
-    ensures { OnOk result (names.new.items ≡ names.old.items ++ filter (form.is_data clock.now) words.now) }
-{
-    for word in words {
-        if word.bytes() != b",".as_slice() && word.bytes() != clock {
-            names.push(word.copied(alloc)?)?;
+    if let Item::Net(decl) = item {
+        if is_input(decl) && decl.name.bytes() != clock {
+            names.push(decl.name.copied(alloc)?)?;
         }
     }
     Ok(())
+}
+
+fn is_input(decl: &Decl) -> bool
+    ensures { result ≡ form.is_input decl.now.dir }
+{
+    matches!(decl.dir, Some(Dir::Input))
 }

@@ -1,14 +1,13 @@
-ghost use Rattle.std.specs.Prelude.{◌≡◌, [], ◌∷◌, true, IfOk, IfSome, map, codes};
-ghost use Rattle.ila_top.specs.FirstForm.{DeclaresInputs, IsModule};
+ghost use Rattle.std.specs.Prelude.{◌≡◌, [], ◌∷◌, IfOk, IfSome};
+ghost use Rattle.ila_top.specs.FirstForm.{DeclaresInputs};
 
-use crate::first::inputs::data_inputs;
-use crate::first::keywords::is_cell;
+use crate::first::cells::is_cell;
+use crate::first::inputs::{are_scalar, data_inputs};
 use crate::first::logic::{Function, Gate, Logic, Operand, Register};
-use crate::first::nets::{Declared, Nets, ReadStop, is_name};
-use crate::first::statements::statements;
-use crate::first::words::words;
+use crate::first::nets::{Declared, Nets, ReadStop};
 use ila_base::Name;
 use std::alloc::Global;
+use vlog_parse::{Dir, GateKind, Item, Module, Tree};
 
 /// A netlist of the plainest form: scalar nets, numbered in the order of declaration.
 #[derive(Drop)]
@@ -32,91 +31,61 @@ const MAX_NETS: usize = 1_048_576;
 
 const MAX_NAME_BYTES: usize = 67_108_864;
 
-/// Reads a text of the plainest form: one module of the top's name with a header of bare names,
-/// declarations of scalars, gates `and`, `or`, `xor` and `not` without a name, and FDRE by name. Each
-/// gate reads inputs, register outputs and outputs of gates above it. Any other text is refused.
-pub fn read(alloc: Global, text: &[u8], top: &[u8], clock: &[u8]) -> Result<Netlist, ReadStop>
-    ensures { IfOk result (λ netlist. DeclaresInputs text.now top.now clock.now netlist.inputs.items) }
+/// Reads a design of the plainest form: one module of the top's name with scalar nets, whose clock is
+/// an input, gates `and`, `or`, `xor` and `not` without a name, and FDRE by name. Each gate reads
+/// inputs, register outputs and outputs of gates above it. Any other design is refused.
+pub fn read(alloc: Global, tree: &Tree, top: &[u8], clock: &[u8]) -> Result<Netlist, ReadStop>
+    ensures { IfOk result (λ netlist. DeclaresInputs tree.now top.now clock.now netlist.inputs.items) }
 {
-    if !is_name(top) || is_cell(top) {
+    let Some(module) = module_of(tree, top) else {
+        return Err(ReadStop::Syntax);
+    };
+    let items = module.items.as_slice();
+    if !are_scalar(items) {
         return Err(ReadStop::Syntax);
     }
-    let Some(words) = words(alloc, text)? else {
-        return Err(ReadStop::Syntax);
-    };
-    let parts = statements(alloc, words.as_slice())?;
-    let Some((ports, middle)) = module_of(parts.as_slice(), top) else {
-        return Err(ReadStop::Syntax);
-    };
-    let inputs = data_inputs(alloc, middle, clock)?;
-    let netlist = build(alloc, inputs, ports, middle, clock)?;
+    let inputs = data_inputs(alloc, items, clock)?;
+    let netlist = build(alloc, inputs, module.ports.as_slice(), items, clock)?;
     Ok(netlist)
 }
 
-// The ports and the statements of the module, where the parts are those of one of the top's name.
-fn module_of<'a>(parts: &'a [&'a [Name]], top: &[u8]) -> Option<(&'a [Name], &'a [&'a [Name]])>
-    ensures { IfSome result (λ found. IsModule (map (λ part. part.now) parts.now) top.now found.0.now (map (λ part. part.now) found.1.now)) }
+// The one module, where it has the top's name.
+fn module_of<'a>(tree: &'a Tree, top: &[u8]) -> Option<&'a Module>
+    ensures { IfSome result (λ found. (tree.now.modules ≡ found.now ∷ []) × (found.now.name ≡ top.now)) }
 {
-    let (header, rest) = parts.split_first()?;
-    let (end, middle) = rest.split_last()?;
-    if !is_end(end) {
+    let (module, others) = tree.modules.as_slice().split_first()?;
+    if is_cell(top) || !others.is_empty() {
         return None;
     }
-    let ports = ports_of(header, top)?;
-    Some((ports, middle))
-}
-
-fn is_end(part: &[Name]) -> bool
-    ensures { result ≡ true → part.now ≡ codes "endmodule" ∷ [] }
-{
-    let Some((word, rest)) = part.split_first() else {
-        return false;
-    };
-    if rest.is_empty() && word.bytes() == b"endmodule".as_slice() {
-        return true;
-    }
-    false
-}
-
-// What stands behind `module` and the top's name.
-fn ports_of<'a>(header: &'a [Name], top: &[u8]) -> Option<&'a [Name]>
-    ensures { IfSome result (λ ports. header.now ≡ codes "module" ∷ top.now ∷ ports.now) }
-{
-    let (word, rest) = header.split_first()?;
-    let (name, ports) = rest.split_first()?;
-    if word.bytes() == b"module".as_slice() && name.bytes() == top {
-        return Some(ports);
+    if module.name.bytes() == top {
+        return Some(module);
     }
     None
 }
 
-// Builds the netlist of the statements.
+// Builds the netlist of the items.
 fn build(
     alloc: Global,
     inputs: Vec<Name>,
     ports: &[Name],
-    statements: &[&[Name]],
+    items: &[Item],
     clock: &[u8],
 ) -> Result<Netlist, ReadStop>
     ensures { IfOk result (λ netlist. netlist.inputs.items ≡ inputs.items) }
 {
     let mut nets = Nets::new(alloc);
-    for statement in statements {
-        declare(alloc, &mut nets, statement)?;
+    for item in items {
+        declare(alloc, &mut nets, item)?;
     }
     let clock = Name::new(alloc, clock)?;
     let clock_net = nets.number(&clock)?;
     let (outputs, output_nets) = outputs_of(alloc, &mut nets, ports, &clock)?;
     let input_nets = numbers_of(alloc, &nets, inputs.as_slice())?;
-    let mut logic = Logic::new(alloc);
-    for statement in statements {
-        add(alloc, &mut nets, &mut logic, clock_net, statement)?;
-    }
     let Logic {
         gates,
         registers,
         pins,
-    } = logic;
+    } = logic_of(alloc, &mut nets, clock_net, items)?;
     let netlist = Netlist {
         inputs,
         outputs,
@@ -126,39 +95,23 @@ fn build(
         gates,
         registers,
     };
-    let cells = netlist.gates.len().saturating_add(netlist.registers.len());
-    let fits = cells <= MAX_CELLS
-        && pins <= MAX_PINS
-        && nets.len() <= MAX_NETS
-        && nets.name_bytes() <= MAX_NAME_BYTES;
-    if !fits || !netlist.is_sound(alloc, &nets, clock_net)? {
+    if !netlist.fits(&nets, pins) || !netlist.is_sound(alloc, &nets, clock_net)? {
         return Err(ReadStop::Syntax);
     }
     Ok(netlist)
 }
 
-// Takes a declaration of scalars, and passes over other statements.
-fn declare(alloc: Global, nets: &mut Nets, statement: &[Name]) -> Result<(), ReadStop> {
-    let Some((word, names)) = statement.split_first() else {
-        return Err(ReadStop::Syntax);
+// Takes a declaration, and passes over other items.
+fn declare(alloc: Global, nets: &mut Nets, item: &Item) -> Result<(), ReadStop> {
+    let Item::Net(decl) = item else {
+        return Ok(());
     };
-    let what = match word.bytes() {
-        b"input" => Declared::Input,
-        b"output" => Declared::Output,
-        b"wire" => Declared::Wire,
-        _ => return Ok(()),
+    let what = match decl.dir {
+        Some(Dir::Input) => Declared::Input,
+        Some(Dir::Output) => Declared::Output,
+        None => Declared::Wire,
     };
-    if names.len() % 2 == 0 {
-        return Err(ReadStop::Syntax);
-    }
-    for (at, name) in names.iter().enumerate() {
-        if at % 2 == 0 {
-            nets.declare(alloc, name, what)?;
-        } else if name.bytes() != b",".as_slice() {
-            return Err(ReadStop::Syntax);
-        }
-    }
-    Ok(())
+    nets.declare(alloc, &decl.name, what)
 }
 
 // The outputs of the header, by name and by net, where the header is as it must be and the clock is
@@ -172,34 +125,18 @@ fn outputs_of(
     let mut names = Vec::new(alloc);
     let mut numbers = Vec::new(alloc);
     let mut clock_is_input = false;
-    for (at, word) in ports.iter().enumerate() {
-        let last = at + 1 == ports.len();
-        if at % 2 == 1 && !last {
-            if nets.name_port(word)? == Declared::Output {
-                numbers.push(nets.number(word)?)?;
-                names.push(word.copied(alloc)?)?;
-            } else {
-                clock_is_input = clock_is_input || word.is(clock);
-            }
-        } else if word.bytes() != mark_at(at, last) {
-            return Err(ReadStop::Syntax);
+    for port in ports {
+        if nets.name_port(port)? == Declared::Output {
+            numbers.push(nets.number(port)?)?;
+            names.push(port.copied(alloc)?)?;
+        } else {
+            clock_is_input = clock_is_input || port.is(clock);
         }
     }
-    if ports.len() % 2 == 0 || !clock_is_input || !nets.ports_are_named() {
+    if !clock_is_input || !nets.ports_are_named() {
         return Err(ReadStop::Syntax);
     }
     Ok((names, numbers))
-}
-
-// The mark at an even place of a header: its parentheses, and commas between the names.
-fn mark_at(at: usize, last: bool) -> &'static [u8] {
-    if at == 0 {
-        b"("
-    } else if last {
-        b")"
-    } else {
-        b","
-    }
 }
 
 fn numbers_of(alloc: Global, nets: &Nets, names: &[Name]) -> Result<Vec<usize>, ReadStop> {
@@ -210,29 +147,59 @@ fn numbers_of(alloc: Global, nets: &Nets, names: &[Name]) -> Result<Vec<usize>, 
     Ok(numbers)
 }
 
-// Takes the gates or registers of a statement, and passes over declarations.
+// The gates and registers of the items.
+fn logic_of(
+    alloc: Global,
+    nets: &mut Nets,
+    clock: usize,
+    items: &[Item],
+) -> Result<Logic, ReadStop> {
+    let mut logic = Logic::new(alloc);
+    for item in items {
+        add(alloc, nets, &mut logic, clock, item)?;
+    }
+    Ok(logic)
+}
+
+// Takes a gate or register, and passes over declarations.
 fn add(
     alloc: Global,
     nets: &mut Nets,
     logic: &mut Logic,
     clock: usize,
-    statement: &[Name],
+    item: &Item,
 ) -> Result<(), ReadStop> {
-    let Some((word, rest)) = statement.split_first() else {
-        return Err(ReadStop::Syntax);
-    };
-    match word.bytes() {
-        b"and" => logic.add_gates(alloc, nets, Function::And, rest),
-        b"or" => logic.add_gates(alloc, nets, Function::Or, rest),
-        b"xor" => logic.add_gates(alloc, nets, Function::Xor, rest),
-        b"not" => logic.add_gates(alloc, nets, Function::Not, rest),
-        b"FDRE" => logic.add_registers(alloc, nets, clock, rest),
-        b"input" | b"output" | b"wire" => Ok(()),
+    match item {
+        Item::Net(_) => Ok(()),
+        Item::Gate(gate) => logic.add_gate(alloc, nets, function_of(gate.kind)?, gate),
+        Item::Inst(register) if register.module.bytes() == b"FDRE".as_slice() => {
+            nets.declare_instance(alloc, &register.name)?;
+            logic.add_register(nets, clock, register)
+        }
+        _ => Err(ReadStop::Syntax),
+    }
+}
+
+fn function_of(kind: GateKind) -> Result<Function, ReadStop> {
+    match kind {
+        GateKind::And => Ok(Function::And),
+        GateKind::Or => Ok(Function::Or),
+        GateKind::Xor => Ok(Function::Xor),
+        GateKind::Not => Ok(Function::Not),
         _ => Err(ReadStop::Syntax),
     }
 }
 
 impl Netlist {
+    // Whether cells, pins, nets and bytes of names are within their limits.
+    fn fits(&self, nets: &Nets, pins: usize) -> bool {
+        let cells = self.gates.len().saturating_add(self.registers.len());
+        cells <= MAX_CELLS
+            && pins <= MAX_PINS
+            && nets.len() <= MAX_NETS
+            && nets.name_bytes() <= MAX_NAME_BYTES
+    }
+
     // Whether all that is read has a source, the clock is no data, and each gate reads only inputs,
     // register outputs and outputs of gates above it.
     fn is_sound(&self, alloc: Global, nets: &Nets, clock: usize) -> Result<bool, ReadStop> {

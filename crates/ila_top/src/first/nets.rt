@@ -1,4 +1,3 @@
-use crate::first::keywords::is_reserved;
 use ila_base::{Name, NoMemory};
 use std::alloc::{AllocError, AllocFailed, Global};
 use std::collections::HashMap;
@@ -53,8 +52,6 @@ pub struct Nets {
     nets: Vec<Net>,
     name_bytes: usize,
 }
-
-const MAX_NAME: usize = 1024;
 
 impl Nets {
     pub fn new(alloc: Global) -> Nets {
@@ -112,9 +109,6 @@ impl Nets {
         name: &Name,
         number: Option<usize>,
     ) -> Result<(), ReadStop> {
-        if !is_name(name.bytes()) {
-            return Err(ReadStop::Syntax);
-        }
         let bytes = Vec::from_slice(alloc, name.bytes())?;
         self.name_bytes = self.name_bytes.saturating_add(bytes.len());
         self.numbers.insert(bytes, number)?;
@@ -175,17 +169,4 @@ fn declare_again(net: &mut Net, what: Declared) -> Result<(), ReadStop> {
         _ => return Err(ReadStop::Syntax),
     }
     Ok(())
-}
-
-/// Whether the word is an identifier of allowed length and no reserved word (IEEE 1364-2005, 3.7).
-pub fn is_name(word: &[u8]) -> bool {
-    match word {
-        [first, ..] => {
-            (first.is_ascii_alphabetic() || *first == b'_')
-                && !word.contains(&b'\'')
-                && word.len() <= MAX_NAME
-                && !is_reserved(word)
-        }
-        [] => false,
-    }
 }
