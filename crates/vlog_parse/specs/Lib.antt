@@ -3,3 +3,4 @@ pub mod Lexemes
 pub mod Expressions
 pub mod Items
 pub mod Design
+pub mod Giving

@@ -2,8 +2,11 @@
 //! (IEEE 1364-2005, clauses 5, 6, 7 and 12), in this profile.
 #![tactic(auto)]
 
+mod lexeme;
+mod parser;
 mod parts;
 mod sort;
+mod stop;
 mod tree;
 
 pub use tree::{Conns, Decl, Dir, Expr, Gate, GateKind, Inst, Item, Module, Range, Tree, Value};
