@@ -1,7 +1,7 @@
 -- The laws of choices: one rule or another, and a rule or nothing.
 use Rattle.std.specs.Prelude.{◌≡◌, refl, Bool, true, false, ◌||◌, List, [], ◌∷◌, ◌++◌, Option, Some, None, cond}
-use Rattle.std.proofs.Common.{sym, ◌∙◌, ap, subst, inl, inr, ◌⊎◌}
-use Rattle.grammar.specs.Rule.{Outcome, Rule, first, looks, pure, ◌>>=◌, either, optional}
+use Rattle.std.proofs.Common.{sym, ◌∙◌, ap, inl, inr}
+use Rattle.grammar.specs.Rule.{Rule, first, looks, pure, ◌>>=◌, either, optional}
 use Rattle.grammar.specs.Rule.Outcome.{Took, Stuck}
 use Rattle.grammar.specs.Good.{Sight, IsWithin, Excludes, or_else, sees, Taken, Blocked, Good}
 use Rattle.grammar.specs.Outcomes.{first_same, cond_yes, cond_not, no_end}
@@ -40,7 +40,7 @@ widened {rule = rule} more less good = record {
   stuck = good.stuck;
   shortest = good.shortest;
   meaning = good.meaning;
-  word = good.word
+  word = good.word;
 }
 
 module _ {T A : Type 0} {b1 b2 follows : Sight T} (passes : T → Bool) (one other : Rule T A)
@@ -68,8 +68,8 @@ module _ {T A : Type 0} {b1 b2 follows : Sight T} (passes : T → Bool) (one oth
     whole = t.whole;
     reads = inl t.reads;
     stays = λ us same.
-      let test_us : looks passes (t.front ++ us) ≡ true = looks_same passes _ _ (first_same t.front us rest same ∙ ap first (sym t.whole)) ∙ test in
-      cond_yes _ _ _ test_us ∙ t.stays us same
+        let test_us : looks passes (t.front ++ us) ≡ true = looks_same passes _ _ (first_same t.front us rest same ∙ ap first (sym t.whole)) ∙ test in
+        cond_yes _ _ _ test_us ∙ t.stays us same;
   }
 
   taken_other : (ts rest : List T) (x : A) → looks passes ts ≡ false → Taken T A other ts x rest → Taken T A either_of ts x rest
@@ -78,8 +78,8 @@ module _ {T A : Type 0} {b1 b2 follows : Sight T} (passes : T → Bool) (one oth
     whole = t.whole;
     reads = inr t.reads;
     stays = λ us same.
-      let test_us : looks passes (t.front ++ us) ≡ false = looks_same passes _ _ (first_same t.front us rest same ∙ ap first (sym t.whole)) ∙ test in
-      cond_not _ _ _ test_us ∙ t.stays us same
+        let test_us : looks passes (t.front ++ us) ≡ false = looks_same passes _ _ (first_same t.front us rest same ∙ ap first (sym t.whole)) ∙ test in
+        cond_not _ _ _ test_us ∙ t.stays us same;
   }
 
   took : (ts rest : List T) (x : A) (test : Bool) → looks passes ts ≡ test → cond test (one.read ts) (other.read ts) ≡ Took x rest → Taken T A either_of ts x rest
@@ -94,8 +94,8 @@ module _ {T A : Type 0} {b1 b2 follows : Sight T} (passes : T → Bool) (one oth
     value = b.value;
     goes_on = inl b.goes_on;
     refuses = λ t after us same.
-      let test_us : looks passes (b.front ++ t ∷ us) ≡ true = looks_same passes _ _ (first_same b.front (t ∷ us) rest (ap first (sym same)) ∙ ap first (sym b.whole)) ∙ test in
-      cond_yes _ _ _ test_us ∙ b.refuses t after us same
+        let test_us : looks passes (b.front ++ t ∷ us) ≡ true = looks_same passes _ _ (first_same b.front (t ∷ us) rest (ap first (sym same)) ∙ ap first (sym b.whole)) ∙ test in
+        cond_yes _ _ _ test_us ∙ b.refuses t after us same;
   }
 
   blocked_other : (ts rest : List T) → looks passes ts ≡ false → Blocked T A other ts rest → Blocked T A either_of ts rest
@@ -106,8 +106,8 @@ module _ {T A : Type 0} {b1 b2 follows : Sight T} (passes : T → Bool) (one oth
     value = b.value;
     goes_on = inr b.goes_on;
     refuses = λ t after us same.
-      let test_us : looks passes (b.front ++ t ∷ us) ≡ false = looks_same passes _ _ (first_same b.front (t ∷ us) rest (ap first (sym same)) ∙ ap first (sym b.whole)) ∙ test in
-      cond_not _ _ _ test_us ∙ b.refuses t after us same
+        let test_us : looks passes (b.front ++ t ∷ us) ≡ false = looks_same passes _ _ (first_same b.front (t ∷ us) rest (ap first (sym same)) ∙ ap first (sym b.whole)) ∙ test in
+        cond_not _ _ _ test_us ∙ b.refuses t after us same;
   }
 
   stuck : (ts rest : List T) (test : Bool) → looks passes ts ≡ test → cond test (one.read ts) (other.read ts) ≡ Stuck rest → Blocked T A either_of ts rest
@@ -122,7 +122,7 @@ module _ {T A : Type 0} {b1 b2 follows : Sight T} (passes : T → Bool) (one oth
     stuck = λ ts rest e. stuck ts rest (looks passes ts) refl e;
     shortest = good_one.shortest;
     meaning = good_one.meaning;
-    word = inl good_one.word
+    word = inl good_one.word;
   }
 
 pub optional_good : {T A : Type 0} {begins follows : Sight T} (passes : T → Bool) (rule : Rule T A) → Good T A begins follows rule

@@ -1,7 +1,7 @@
 -- When a rule's reading is exact: it takes just the words of the language, and is stuck at the first token with which no word
 -- goes on.
-use Rattle.std.specs.Prelude.{◌≡◌, Bool, true, false, ◌||◌, List, [], ◌∷◌, ◌++◌, Option, Some, None}
-use Rattle.grammar.specs.Rule.{Language, Outcome, Rule, first}
+use Rattle.std.specs.Prelude.{◌≡◌, Bool, true, false, ◌||◌, List, ◌∷◌, ◌++◌, Option, Some, None}
+use Rattle.grammar.specs.Rule.{Language, Rule, first}
 use Rattle.grammar.specs.Rule.Outcome.{Took, Stuck}
 
 -- what may come first

@@ -4,3 +4,7 @@ pub mod Outcomes
 pub mod TokenLaws
 pub mod SequenceLaws
 pub mod ChoiceLaws
+pub mod BoundLaws
+pub mod RepeatLaws
+pub mod ListLaws
+pub mod NestLaws

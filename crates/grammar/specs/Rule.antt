@@ -39,7 +39,7 @@ read_term passes value (t ∷ ts) = if passes t then Took (value t) ts else Stuc
 abbrev pub term : {T A : Type 0} → (T → Bool) → (T → A) → Rule T A
 term {T} passes value = record {
   words = λ ts a. (t : T) × (ts ≡ t ∷ []) × (passes t ≡ true) × (a ≡ value t);
-  read = read_term passes value
+  read = read_term passes value;
 }
 
 -- One token that passes, whose value isn't kept.
@@ -50,7 +50,7 @@ token passes = term passes (λ _. tt {0})
 abbrev pub pure : {T A : Type 0} → A → Rule T A
 pure value = record {
   words = λ ts a. (ts ≡ []) × (a ≡ value);
-  read = λ ts. Took value ts
+  read = λ ts. Took value ts;
 }
 
 -- The end of the text.
@@ -61,7 +61,7 @@ read_end (t ∷ ts) = Stuck (t ∷ ts)
 abbrev pub end : {T : Type 0} → Rule T (Unit {0})
 end = record {
   words = λ ts _. ts ≡ [];
-  read = read_end
+  read = read_end;
 }
 
 -- One rule and then another: the list is cut in two.
@@ -69,14 +69,14 @@ infixl 10 ◌>>=◌
 abbrev pub ◌>>=◌ : {T A B : Type 0} → Rule T A → (A → Rule T B) → Rule T B
 ◌>>=◌ {T} {A} {B} rule next = record {
   words = λ ts b. (front : List T) × (back : List T) × (a : A) × (ts ≡ front ++ back) × rule.words front a × (next a).words back b;
-  read = λ ts. continue (rule.read ts) (λ a rest. (next a).read rest)
+  read = λ ts. continue (rule.read ts) (λ a rest. (next a).read rest);
 }
 
 -- One rule or another. The reading takes the one where the first token passes, else the other.
 abbrev pub either : {T A : Type 0} → (T → Bool) → Rule T A → Rule T A → Rule T A
 either passes one other = record {
   words = λ ts a. one.words ts a ⊎ other.words ts a;
-  read = λ ts. if looks passes ts then one.read ts else other.read ts
+  read = λ ts. if looks passes ts then one.read ts else other.read ts;
 }
 
 -- One rule several times, or never. The reading goes on while the first token passes.
@@ -84,15 +84,23 @@ abbrev pub AreWords : {T A : Type 0} → Language T A → List T → List A → 
 AreWords language ts [] = ts ≡ []
 AreWords {T} language ts (x ∷ xs) = (front : List T) × (back : List T) × (ts ≡ front ++ back) × language front x × AreWords language back xs
 
-abbrev pub read_many : {T A : Type 0} → ℕ → (T → Bool) → (List T → Outcome T A) → List T → Outcome T (List A)
-read_many zero passes read ts = Took [] ts
-read_many (suc n) passes read ts =
-    if looks passes ts then continue (read ts) (λ x rest. continue (read_many n passes read rest) (λ xs behind. Took (x ∷ xs) behind)) else Took [] ts
+-- at most so many times
+abbrev pub times : {T A : Type 0} → ℕ → (T → Bool) → Rule T A → Rule T (List A)
+times zero passes rule = pure []
+times (suc n) passes rule = either passes (do x ← rule; xs ← times n passes rule; pure (x ∷ xs)) (pure [])
 
 abbrev pub repeat : {T A : Type 0} → (T → Bool) → Rule T A → Rule T (List A)
 repeat passes rule = record {
   words = AreWords rule.words;
-  read = λ ts. read_many (length ts) passes rule.read ts
+  read = λ ts. (times (length ts) passes rule).read ts;
+}
+
+-- A rule with a bound, as on how deep its words are nested, for any bound. The reading takes the number of tokens, which is
+-- enough where each level takes a token.
+abbrev pub unbounded : {T A : Type 0} → (ℕ → Rule T A) → Rule T A
+unbounded within = record {
+  words = λ ts a. (n : ℕ) × (within n).words ts a;
+  read = λ ts. (within (length ts)).read ts;
 }
 
 -- A rule, or nothing.

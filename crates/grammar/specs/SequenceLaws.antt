@@ -35,7 +35,7 @@ module _ {T A B : Type 0} {begins between between' follows : Sight T} (rule : Ru
     front = t1.front ++ t2.front;
     whole = t1.whole ∙ ap (λ us. t1.front ++ us) t2.whole ∙ sym (append_assoc t1.front t2.front rest);
     reads = (t1.front, t2.front, x, refl, t1.reads, t2.reads);
-    stays = stays
+    stays = stays;
   } where
     stays : (us : List T) → first us ≡ first rest → both.read ((t1.front ++ t2.front) ++ us) ≡ Took y us
     stays us same =
@@ -55,7 +55,7 @@ module _ {T A B : Type 0} {begins between between' follows : Sight T} (rule : Ru
     more = b.more ++ (other b.value).shortest;
     value = (other b.value).meaning;
     goes_on = (b.front ++ b.more, (other b.value).shortest, b.value, sym (append_assoc b.front b.more (other b.value).shortest), b.goes_on, (other b.value).word);
-    refuses = λ t after us same. ap (λ o. continue o (λ a vs. (next a).read vs)) (b.refuses t after us same)
+    refuses = λ t after us same. ap (λ o. continue o (λ a vs. (next a).read vs)) (b.refuses t after us same);
   }
 
   -- the second is stuck, behind what the first took
@@ -66,7 +66,7 @@ module _ {T A B : Type 0} {begins between between' follows : Sight T} (rule : Ru
     more = b.more;
     value = b.value;
     goes_on = (t.front, b.front ++ b.more, x, append_assoc t.front b.front b.more, t.reads, b.goes_on);
-    refuses = refuses
+    refuses = refuses;
   } where
     refuses : (u : T) (after us : List T) → rest ≡ u ∷ after → both.read ((t.front ++ b.front) ++ u ∷ us) ≡ Stuck (u ∷ us)
     refuses u after us same =
@@ -86,5 +86,5 @@ module _ {T A B : Type 0} {begins between between' follows : Sight T} (rule : Ru
     stuck = λ ts rest e. stuck_at ts rest (halted (rule.read ts) (λ a us. (next a).read us) rest e);
     shortest = one.shortest ++ (other one.meaning).shortest;
     meaning = (other one.meaning).meaning;
-    word = (one.shortest, (other one.meaning).shortest, one.meaning, refl, one.word, (other one.meaning).word)
+    word = (one.shortest, (other one.meaning).shortest, one.meaning, refl, one.word, (other one.meaning).word);
   }
