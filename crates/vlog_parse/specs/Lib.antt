@@ -4,3 +4,4 @@ pub mod Expressions
 pub mod Items
 pub mod Design
 pub mod Giving
+pub mod Readers

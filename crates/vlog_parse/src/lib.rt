@@ -3,6 +3,7 @@
 #![tactic(auto)]
 
 mod lexeme;
+mod list;
 mod parser;
 mod parts;
 mod sort;
