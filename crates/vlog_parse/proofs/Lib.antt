@@ -1,1 +1,5 @@
-pub mod LoopLaws
+mod SortLaws
+mod ExpressionLaws
+mod ItemLaws
+mod DesignLaws
+mod LoopLaws

@@ -93,7 +93,7 @@ lexeme text token = record {
   name = name_of token.kind (bytes_of text token);
   number = number_of token.kind;
   word = word_of token.kind;
-  place = token.place
+  place = token.place;
 }
 
 abbrev pub lexemes : List ℕ → List Token → List Lexeme
