@@ -141,18 +141,18 @@ rises n m less ts e w =
     let z : (m - n) + n ≡ m = omega (arith, less) in
     subst P z (more_rises (m - n) n ts e w)
 
-over_same : (n : ℕ) (one other : Rule Lexeme Expr) → SameTo n one other → Keeps one → Keeps (args one) → SameTo (suc n) (expr_over one) (expr_over other)
+pub over_same : (n : ℕ) (one other : Rule Lexeme Expr) → SameTo n one other → Keeps one → Keeps (args one) → SameTo (suc n) (expr_over one) (expr_over other)
 over_same n one other alike keeps args_keep ts less =
     ap (λ o. cond (looks (is LeftBrace) ts) o (operand.read ts)) (behind_same n (is LeftBrace) (λ _. tt {0}) (λ _. inside one) (λ _. inside other) (λ _. parts) ts less) where
       parts : SameTo n (inside one) (inside other)
       parts = then_same n (args one) (args other) closed closed (list_same n (is Comma) one other alike keeps) args_keep (λ x us _. refl)
 
-args_keep : (n : ℕ) → Keeps (args (expr_within n))
+pub args_keep : (n : ℕ) → Keeps (args (expr_within n))
 args_keep n = good_keeps (args (expr_within n))
     (args_good (expr_within n) (sees (is RightBrace)) (within_good n) (within (sees (is RightBrace)) no_select (λ t. refl) (λ t. refl) refl refl)
     (excludes (is Comma) (sees (is RightBrace)) (λ t. refl) (λ t. refl) refl))
 
-same_reading : (n m : ℕ) (ts : List Lexeme) → length ts ≤ n → length ts ≤ m → (expr_within n).read ts ≡ (expr_within m).read ts
+pub same_reading : (n m : ℕ) (ts : List Lexeme) → length ts ≤ n → length ts ≤ m → (expr_within n).read ts ≡ (expr_within m).read ts
 same_reading zero zero ts a b = refl
 same_reading zero (suc m) [] a b = refl
 same_reading zero (suc m) (t ∷ ts) a b = absurd (omega (arith, a))

@@ -3,3 +3,4 @@ mod ExpressionLaws
 mod ItemLaws
 mod DesignLaws
 mod LoopLaws
+mod SkipLaws

@@ -5,3 +5,4 @@ pub mod Items
 pub mod Design
 pub mod Giving
 pub mod Readers
+pub mod Skipping

@@ -6,6 +6,7 @@ mod lexeme;
 mod list;
 mod parser;
 mod parts;
+mod skip;
 mod sort;
 mod stop;
 mod tree;
