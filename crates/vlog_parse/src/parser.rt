@@ -1,4 +1,4 @@
-ghost use Rattle.std.specs.Prelude.{◌≡◌, [], ◌∷◌, ◌↔◌, IsTrue};
+ghost use Rattle.std.specs.Prelude.{◌≡◌, [], ◌∷◌, ◌↔◌, IsTrue, length};
 ghost use Rattle.grammar.specs.Rule.{looks};
 ghost use Rattle.vlog_parse.specs.Sorts.{is_direction, is_gate, begins_item, begins_expr};
 ghost use Rattle.vlog_parse.specs.Expressions.{is, mark, name, number, constant};
@@ -79,6 +79,13 @@ impl<'a> Parser<'a> {
             Some(token) => sort_of(token.kind, bytes_of(self.text, token)).begins_expr(),
             None => false,
         }
+    }
+
+    /// How many tokens are left.
+    pub fn left(&self) -> usize
+        ensures { result ≡ length self.now }
+    {
+        self.rest.len()
     }
 
     /// Whether no token is left.

@@ -1,3 +1,17 @@
+ghost use Rattle.std.specs.Prelude.{◌≡◌, ◌+◌, ◌^◌, ◌<◌, true, false, length};
+ghost use Rattle.grammar.specs.Rule.{looks};
+ghost use Rattle.vlog_parse.specs.declared.sort.Sort.TheVariants.{LeftBrace as OpenMark};
+ghost use Rattle.vlog_parse.specs.Expressions.{is};
+ghost use Rattle.vlog_parse.specs.Giving.{Gives};
+ghost use Rattle.vlog_parse.specs.Skipping.{skipped, wanting, Turns};
+
+use crate::parser::Parser;
+use crate::sort::Sort;
+use crate::stop::Stop;
+use crate::tree::Expr;
+use ila_base::Items;
+use std::alloc::Global;
+
 /// Where in an expression a reading stands that keeps nothing of it.
 #[derive(Clone, Copy, Debug)]
 pub struct Skip {
@@ -5,4 +19,74 @@ pub struct Skip {
     pub wants: bool,
     /// How many braces are open.
     pub open: usize,
+}
+
+impl<'a> Parser<'a> {
+    /// A turn where an expression comes next.
+    fn skip_into(&mut self, alloc: Global, skip: Skip) -> Result<Skip, Stop>
+        requires wants { skip.wants ≡ true }
+        requires room { skip.open + length self.old < 2 ^ 64 }
+        ensures { Turns skip self.old result self.new }
+    {
+        if self.sees(Sort::LeftBrace) {
+            self.mark(Sort::LeftBrace)?;
+            return Ok(Skip {
+                wants: true,
+                open: skip.open + 1,
+            });
+        }
+        let _ = self.operand(alloc)?;
+        Ok(Skip {
+            wants: false,
+            open: skip.open,
+        })
+    }
+
+    /// A turn behind an expression, in an open brace.
+    fn skip_behind(&mut self, skip: Skip) -> Result<Skip, Stop>
+        requires wants { skip.wants ≡ false }
+        requires open { 0 < skip.open }
+        ensures { Turns skip self.old result self.new }
+    {
+        if self.sees(Sort::RightBrace) {
+            self.mark(Sort::RightBrace)?;
+            return Ok(Skip {
+                wants: false,
+                open: skip.open - 1,
+            });
+        }
+        self.mark(Sort::Comma)?;
+        Ok(Skip {
+            wants: true,
+            open: skip.open,
+        })
+    }
+
+    /// An expression of any depth, of which nothing is kept. No call stands in another for it.
+    fn skip_expr(&mut self, alloc: Global) -> Result<(), Stop>
+        ensures { Gives ((wanting 0).read self.old) result self.new }
+    {
+        let limit = self.left();
+        let mut skip = Skip {
+            wants: true,
+            open: 0,
+        };
+        'turns: while skip.wants || skip.open > 0 {
+            skip = if skip.wants {
+                self.skip_into(alloc, skip)?
+            } else {
+                self.skip_behind(skip)?
+            };
+        }
+        Ok(())
+    }
+
+    /// A concatenation, without its parts.
+    pub fn skipped(&mut self, alloc: Global) -> Result<Expr, Stop>
+        requires { looks (is OpenMark) self.old ≡ true }
+        ensures { Gives (skipped.read self.old) result self.new }
+    {
+        self.skip_expr(alloc)?;
+        Ok(Expr::Concat(Items::new(alloc)))
+    }
 }
