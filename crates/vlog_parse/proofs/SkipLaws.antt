@@ -1,9 +1,9 @@
 -- An expression of any depth is read token by token, with a count of its open braces.
-use Rattle.std.proofs.Common.{◌≡◌, refl, sym, ◌∙◌, ap, ℕ, zero, suc, ◌+◌, ◌≤◌, Bool, true, false, cond, List, [], ◌∷◌, length, arith}
+use Rattle.std.proofs.Common.{◌≡◌, refl, sym, ◌∙◌, ap, ℕ, zero, suc, ◌+◌, ◌-◌, ◌<◌, ◌≤◌, Bool, true, false, cond, List, [], ◌∷◌, length, arith}
 use Rattle.grammar.specs.Rule.{Outcome, Rule, looks, continue, token, pure, ◌>>=◌, repeat, list}
 use Rattle.grammar.specs.Rule.Outcome.{Took, Stuck}
-use Rattle.grammar.specs.Outcomes.{cond_yes, cond_not}
-use Rattle.grammar.specs.RepeatLaws.{Shrinks, with_first, repeat_unrolls, repeat_ends}
+use Rattle.grammar.specs.Outcomes.{cond_yes, cond_not, took_rest, not_both_ways, no_end}
+use Rattle.grammar.specs.RepeatLaws.{Shrinks, shrinks_by, with_first, repeat_unrolls, repeat_ends}
 use Rattle.grammar.specs.ListLaws.{separated}
 use Rattle.grammar.specs.NestLaws.{Keeps, SameTo, good_keeps}
 use Rattle.vlog_parse.specs.declared.tree.Expr.{Expr}
@@ -12,7 +12,7 @@ use Rattle.vlog_parse.specs.declared.sort.Sort.TheVariants.{LeftBrace, RightBrac
 use Rattle.vlog_parse.specs.Lexemes.{Lexeme}
 use Rattle.vlog_parse.specs.Expressions.{is, mark, operand, args, concatenation, expr_over, expr_within, expr}
 use Rattle.vlog_parse.specs.Skipping.{skipped, cut_within, closing, wanting, left}
-use Rattle.vlog_parse.proofs.ExpressionLaws.{within_good, expr_good, over_same, args_keep, same_reading}
+use Rattle.vlog_parse.proofs.ExpressionLaws.{operand_good, within_good, expr_good, over_same, args_keep, same_reading}
 use Rattle.grammar.specs.Good.{Excludes, sees}
 use Rattle.vlog_parse.specs.declared.sort.Sort.{Sort}
 use Rattle.vlog_parse.proofs.SortLaws.{excludes}
@@ -108,3 +108,63 @@ reads_comma k ts test = by_comma (looks (is Comma) ts) refl where
       ap (λ o. continue o (λ _ rest. close rest)) (repeat_ends (is Comma) (separated (is Comma) expr) others_shrink ts no_comma)
       ∙ ap (λ o. goes o (closing k).read) (mark_stuck RightBrace ts test)
       ∙ sym (ap (λ o. goes o (wanting (suc k)).read) (mark_stuck Comma ts no_comma))
+
+-- The turns of a loop, in so many open braces
+
+shorter : (s : Sort) (ts rest : List Lexeme) (u : Unit {0}) → (mark s).read ts ≡ Took u rest → length rest < length ts
+shorter s [] rest u e = absurd (not_both_ways e)
+shorter s (t ∷ ts) rest u e = by_test (is s t) e where
+  by_test : (b : Bool) → cond b (Took (tt {0}) ts) (Stuck (t ∷ ts)) ≡ Took u rest → length rest < length (t ∷ ts)
+  by_test true is = let size : length ts ≡ length rest = ap length (took_rest is) in omega (arith, size)
+  by_test false is = absurd (not_both_ways is)
+
+operand_shrinks : Shrinks operand
+operand_shrinks = shrinks_by operand operand_good (λ x w. no_end (operand_good.starts [] [] x w refl))
+
+pub turn_open : (w : Bool) (k m : ℕ) (ts rest : List Lexeme) (u : Unit {0}) → w ≡ true → m ≡ k + 1 → looks (is LeftBrace) ts ≡ true → (mark LeftBrace).read ts ≡ Took u rest
+    → ((left w k).read ts ≡ (wanting m).read rest) × (length rest < length ts) × (m + length rest ≤ k + length ts)
+turn_open false k m ts rest u is_so count test e = absurd (no_end is_so)
+turn_open true k m ts rest u is_so count test e =
+    let less : length rest < length ts = shorter LeftBrace ts rest u e in
+    let next : suc k ≡ m = omega arith in
+    (reads_open k ts test ∙ ap (λ o. goes o (wanting (suc k)).read) e ∙ ap (λ n. (wanting n).read rest) next, less, omega arith)
+
+pub turn_operand : (w : Bool) (k : ℕ) (ts rest : List Lexeme) (x : Expr) → w ≡ true → looks (is LeftBrace) ts ≡ false → operand.read ts ≡ Took x rest
+    → ((left w k).read ts ≡ (closing k).read rest) × (length rest < length ts) × (k + length rest ≤ k + length ts)
+turn_operand false k ts rest x is_so test e = absurd (no_end is_so)
+turn_operand true k ts rest x is_so test e =
+    let less : length rest < length ts = operand_shrinks ts rest x e in
+    (reads_operand k ts test ∙ ap (λ o. goes o (closing k).read) e, less, omega arith)
+
+pub stop_operand : (w : Bool) (k : ℕ) (ts rest : List Lexeme) → w ≡ true → looks (is LeftBrace) ts ≡ false → operand.read ts ≡ Stuck rest → (left w k).read ts ≡ Stuck rest
+stop_operand false k ts rest is_so test e = absurd (no_end is_so)
+stop_operand true k ts rest is_so test e = reads_operand k ts test ∙ ap (λ o. goes o (closing k).read) e
+
+pub turn_close : (w : Bool) (k m : ℕ) (ts rest : List Lexeme) (u : Unit {0}) → w ≡ false → 0 < k → m ≡ k - 1 → looks (is RightBrace) ts ≡ true → (mark RightBrace).read ts ≡ Took u rest
+    → ((left w k).read ts ≡ (closing m).read rest) × (length rest < length ts) × (m + length rest ≤ k + length ts)
+turn_close true k m ts rest u is_not some count test e = absurd (no_end (sym is_not))
+turn_close false zero m ts rest u is_not some count test e = absurd (omega (arith, some))
+turn_close false (suc k) m ts rest u is_not some count test e =
+    let less : length rest < length ts = shorter RightBrace ts rest u e in
+    let next : k ≡ m = omega arith in
+    (reads_close k ts test ∙ ap (λ o. goes o (closing k).read) e ∙ ap (λ n. (closing n).read rest) next, less, omega arith)
+
+pub turn_comma : (w : Bool) (k : ℕ) (ts rest : List Lexeme) (u : Unit {0}) → w ≡ false → 0 < k → looks (is RightBrace) ts ≡ false → (mark Comma).read ts ≡ Took u rest
+    → ((left w k).read ts ≡ (wanting k).read rest) × (length rest < length ts) × (k + length rest ≤ k + length ts)
+turn_comma true k ts rest u is_not some test e = absurd (no_end (sym is_not))
+turn_comma false zero ts rest u is_not some test e = absurd (omega (arith, some))
+turn_comma false (suc k) ts rest u is_not some test e =
+    let less : length rest < length ts = shorter Comma ts rest u e in
+    (reads_comma k ts test ∙ ap (λ o. goes o (wanting (suc k)).read) e, less, omega arith)
+
+pub stop_comma : (w : Bool) (k : ℕ) (ts rest : List Lexeme) → w ≡ false → 0 < k → looks (is RightBrace) ts ≡ false → (mark Comma).read ts ≡ Stuck rest → (left w k).read ts ≡ Stuck rest
+stop_comma true k ts rest is_not some test e = absurd (no_end (sym is_not))
+stop_comma false zero ts rest is_not some test e = absurd (omega (arith, some))
+stop_comma false (suc k) ts rest is_not some test e = reads_comma k ts test ∙ ap (λ o. goes o (wanting (suc k)).read) e
+
+-- a concatenation, read as any expression
+pub skipped_by : (ts : List Lexeme) → looks (is LeftBrace) ts ≡ true → skipped.read ts ≡ continue ((wanting 0).read ts) (λ _ rest. Took (Concat []) rest)
+skipped_by ts test = by_outcome ((concatenation expr).read ts) ∙ sym (ap (λ o. continue (goes o (closing 0).read) (λ _ rest. Took (Concat []) rest)) (expr_unrolls ts ∙ cond_yes _ _ _ test)) where
+  by_outcome : (o : Outcome Lexeme Expr) → continue o (λ _ rest. Took (Concat []) rest) ≡ continue (goes o (closing 0).read) (λ _ rest. Took (Concat []) rest)
+  by_outcome (Took x rest) = refl
+  by_outcome (Stuck rest) = refl

@@ -23,6 +23,7 @@ pub struct Skip {
 
 impl<'a> Parser<'a> {
     /// A turn where an expression comes next.
+    #[tactic(auto, using(crate::proofs::SkipLaws::turn_open, crate::proofs::SkipLaws::stop_operand))]
     fn skip_into(&mut self, alloc: Global, skip: Skip) -> Result<Skip, Stop>
         requires wants { skip.wants ≡ true }
         requires room { skip.open + length self.old < 2 ^ 64 }
@@ -43,9 +44,10 @@ impl<'a> Parser<'a> {
     }
 
     /// A turn behind an expression, in an open brace.
+    #[tactic(auto, using(crate::proofs::SkipLaws::turn_close, crate::proofs::SkipLaws::turn_comma, crate::proofs::SkipLaws::stop_comma))]
     fn skip_behind(&mut self, skip: Skip) -> Result<Skip, Stop>
         requires wants { skip.wants ≡ false }
-        requires open { 0 < skip.open }
+        requires some { 0 < skip.open }
         ensures { Turns skip self.old result self.new }
     {
         if self.sees(Sort::RightBrace) {
@@ -82,6 +84,7 @@ impl<'a> Parser<'a> {
     }
 
     /// A concatenation, without its parts.
+    #[tactic(auto, using(crate::proofs::SkipLaws::skipped_by))]
     pub fn skipped(&mut self, alloc: Global) -> Result<Expr, Stop>
         requires { looks (is OpenMark) self.old ≡ true }
         ensures { Gives (skipped.read self.old) result self.new }
