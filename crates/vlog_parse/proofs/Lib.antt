@@ -3,4 +3,5 @@ mod ExpressionLaws
 mod ItemLaws
 mod DesignLaws
 mod LoopLaws
+mod CutLaws
 mod SkipLaws

@@ -2,6 +2,7 @@
 //! (IEEE 1364-2005, clauses 5, 6, 7 and 12), in this profile.
 #![tactic(auto)]
 
+mod concatenation;
 mod expressions;
 mod lexeme;
 mod list;
