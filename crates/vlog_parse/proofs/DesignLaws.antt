@@ -38,7 +38,7 @@ ansi_good =
     (λ range. then_good _ _ name_good (λ n. pure_good _ anything) (λ o e. refl))
     (λ o e. e)) (λ o e. e)) (λ o e. refl)
 
-next_part_good : Good Lexeme PortPart (sees (is Comma)) anything next_part
+pub next_part_good : Good Lexeme PortPart (sees (is Comma)) anything next_part
 next_part_good =
     then_good _ _ (mark_good Comma)
     (λ _. either_good (of_sort is_direction) _ _ (then_good _ _ ansi_good (λ d. pure_good _ anything) (λ o e. refl))
@@ -86,10 +86,10 @@ header_good =
     (excludes (is LeftParenthesis) (sees (is Semicolon)) (λ t. refl) (λ t. refl) refl)
 
 module _ (e : Rule Lexeme Expr) (good : Good Lexeme Expr begins_expression no_select e) where
-  one_item : Good Lexeme (List Item) begins_any_item anything (item e)
+  pub one_item : Good Lexeme (List Item) begins_any_item anything (item e)
   one_item = item_good e good
 
-  module_good : Good Lexeme Module (sees (is ModuleWord)) anything (module_over e)
+  pub module_good : Good Lexeme Module (sees (is ModuleWord)) anything (module_over e)
   module_good =
       then_good _ _ (mark_good ModuleWord)
       (λ _. then_good _ _ name_good

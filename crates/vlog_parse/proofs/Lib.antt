@@ -4,4 +4,5 @@ mod ItemLaws
 mod DesignLaws
 mod LoopLaws
 mod CutLaws
+mod PartLaws
 mod SkipLaws

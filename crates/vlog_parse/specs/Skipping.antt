@@ -48,3 +48,7 @@ Turns skip before (Ok next) after = ((left skip.wants skip.open).read before ≡
     × (length after < length before) × (next.open + length after ≤ skip.open + length before)
 Turns skip before (Err Syntax) after = (left skip.wants skip.open).read before ≡ Stuck after
 Turns skip before (Err NoMemory) after = Unit {0}
+
+-- an expression, with the parts of concatenations that stand in fewer than 32 others
+unfoldable pub cut : Rule Lexeme Expr
+cut = cut_within 32

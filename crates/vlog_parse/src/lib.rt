@@ -4,6 +4,7 @@
 
 mod concatenation;
 mod expressions;
+mod items;
 mod lexeme;
 mod list;
 mod parser;
