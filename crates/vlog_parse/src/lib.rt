@@ -4,9 +4,12 @@
 
 mod concatenation;
 mod expressions;
+mod gates;
+mod instances;
 mod items;
 mod lexeme;
 mod list;
+mod params;
 mod parser;
 mod parts;
 mod skip;
