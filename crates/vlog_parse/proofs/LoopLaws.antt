@@ -6,7 +6,11 @@ use Rattle.grammar.specs.Outcomes.{took_rest, not_both_ways}
 use Rattle.grammar.specs.RepeatLaws.{Shrinks, with_first, repeat_takes, repeat_stops, repeat_ends}
 use Rattle.grammar.specs.ListLaws.{separated}
 use Rattle.grammar.specs.NestLaws.{Keeps}
+use Rattle.vlog_parse.specs.declared.tree.Decl.{Decl}
+use Rattle.vlog_parse.specs.declared.tree.Item.{Item}
+use Rattle.vlog_parse.specs.declared.parts.PortPart.{PortPart}
 use Rattle.vlog_parse.specs.Lexemes.{Lexeme}
+use Rattle.vlog_parse.specs.Design.{joined, declared_behind, carried}
 
 -- what is read where these values were read before
 abbrev pub behind : {A : Type 0} → List A → Outcome Lexeme (List A) → Outcome Lexeme (List A)
@@ -46,3 +50,35 @@ pub part_taken : {A : Type 0} (passes : Lexeme → Bool) (rule : Rule Lexeme A) 
     → all ≡ behind more ((repeat passes rule).read rest)
 part_taken passes rule s all done more ts rest x before test e is =
     before ∙ loop_takes passes rule s done ts rest x test e ∙ ap (λ xs. behind xs ((repeat passes rule).read rest)) (sym is)
+
+-- A loop that joins lists
+
+-- what is read where these values were read before, with the lists joined
+abbrev pub behind_joined : List Item → Outcome Lexeme (List (List Item)) → Outcome Lexeme (List Item)
+behind_joined done o = continue o (λ lists rest. Took (done ++ joined lists) rest)
+
+behind_joined-with_first : (done xs : List Item) (o : Outcome Lexeme (List (List Item))) → behind_joined done (with_first xs o) ≡ behind_joined (done ++ xs) o
+behind_joined-with_first done xs (Took lists rest) = ap (λ ys. Took ys rest) (sym (append_assoc done xs (joined lists)))
+behind_joined-with_first done xs (Stuck rest) = refl
+
+pub list_taken : (passes : Lexeme → Bool) (rule : Rule Lexeme (List Item)) → Shrinks rule → (all : Outcome Lexeme (List Item)) (done more : List Item) (ts rest : List Lexeme) (xs : List Item)
+    → all ≡ behind_joined done ((repeat passes rule).read ts) → looks passes ts ≡ true → rule.read ts ≡ Took xs rest → more ≡ done ++ xs
+    → all ≡ behind_joined more ((repeat passes rule).read rest)
+list_taken passes rule s all done more ts rest xs before test e is =
+    before ∙ ap (behind_joined done) (repeat_takes passes rule s ts rest xs test e) ∙ behind_joined-with_first done xs ((repeat passes rule).read rest)
+    ∙ ap (λ ys. behind_joined ys ((repeat passes rule).read rest)) (sym is)
+
+-- The ports of an ANSI header
+
+-- the declaration that stands last
+abbrev pub last_decl : Decl → List PortPart → Decl
+last_decl before [] = before
+last_decl before (p ∷ more) = last_decl (declared_behind before p) more
+
+pub last_decl-append : (before : Decl) (parts : List PortPart) (p : PortPart) → last_decl before (parts ++ p ∷ []) ≡ declared_behind (last_decl before parts) p
+last_decl-append before [] p = refl
+last_decl-append before (q ∷ parts) p = last_decl-append (declared_behind before q) parts p
+
+pub carried-append : (before : Decl) (parts : List PortPart) (p : PortPart) → carried before (parts ++ p ∷ []) ≡ carried before parts ++ declared_behind (last_decl before parts) p ∷ []
+carried-append before [] p = refl
+carried-append before (q ∷ parts) p = ap (λ ds. declared_behind before q ∷ ds) (carried-append (declared_behind before q) parts p)

@@ -2,7 +2,7 @@ ghost use Rattle.std.specs.Prelude.{◌≡◌, map, Some, None, IfOk};
 ghost use Rattle.grammar.specs.Rule.{list};
 ghost use Rattle.vlog_parse.specs.declared.sort.Sort.TheVariants.{Comma};
 ghost use Rattle.vlog_parse.specs.Expressions.{is, name};
-ghost use Rattle.vlog_parse.specs.Items.{some_wire, some_range, net_of, port_items, net_items, pair, assign_items};
+ghost use Rattle.vlog_parse.specs.Items.{some_wire, some_range, net_of, port_items, net_items, pair, assign_items, item};
 ghost use Rattle.vlog_parse.specs.Giving.{Gives};
 ghost use Rattle.vlog_parse.specs.Skipping.{cut};
 
@@ -68,7 +68,7 @@ impl<'a> Parser<'a> {
     }
 
     /// The declaration of ports (IEEE 1364-2005, 12.3.3).
-    pub fn port_items(&mut self, alloc: Global) -> Result<Items<Item>, Stop>
+    fn port_items(&mut self, alloc: Global) -> Result<Items<Item>, Stop>
         ensures { Gives (port_items.read self.old) result self.new }
     {
         let dir = self.direction()?;
@@ -81,7 +81,7 @@ impl<'a> Parser<'a> {
     }
 
     /// The declaration of nets (4.2).
-    pub fn net_items(&mut self, alloc: Global) -> Result<Items<Item>, Stop>
+    fn net_items(&mut self, alloc: Global) -> Result<Items<Item>, Stop>
         ensures { Gives (net_items.read self.old) result self.new }
     {
         self.mark(Sort::Wire)?;
@@ -111,13 +111,32 @@ impl<'a> Parser<'a> {
     }
 
     /// Continuous assignments (6.1).
-    pub fn assign_items(&mut self, alloc: Global) -> Result<Items<Item>, Stop>
+    fn assign_items(&mut self, alloc: Global) -> Result<Items<Item>, Stop>
         ensures { Gives ((assign_items cut).read self.old) result self.new }
     {
         self.mark(Sort::Assign)?;
         let pairs = self.pairs(alloc)?;
         self.mark(Sort::Semicolon)?;
         Ok(pairs)
+    }
+
+    /// What one item of a module stands for.
+    pub fn item(&mut self, alloc: Global) -> Result<Items<Item>, Stop>
+        ensures { Gives ((item cut).read self.old) result self.new }
+    {
+        if self.sees_direction() {
+            return self.port_items(alloc);
+        }
+        if self.sees(Sort::Wire) {
+            return self.net_items(alloc);
+        }
+        if self.sees(Sort::Assign) {
+            return self.assign_items(alloc);
+        }
+        if self.sees_gate() {
+            return self.gate_items(alloc);
+        }
+        self.inst_items(alloc)
     }
 }
 

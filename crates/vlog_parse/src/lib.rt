@@ -5,10 +5,12 @@
 mod concatenation;
 mod expressions;
 mod gates;
+mod header;
 mod instances;
 mod items;
 mod lexeme;
 mod list;
+mod modules;
 mod params;
 mod parser;
 mod parts;

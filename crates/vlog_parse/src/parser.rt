@@ -1,5 +1,5 @@
-ghost use Rattle.std.specs.Prelude.{◌≡◌, [], ◌∷◌, ◌↔◌, IsTrue, length};
-ghost use Rattle.grammar.specs.Rule.{looks};
+ghost use Rattle.std.specs.Prelude.{◌≡◌, length};
+ghost use Rattle.grammar.specs.Rule.{looks, end};
 ghost use Rattle.vlog_parse.specs.Sorts.{is_direction, is_gate, begins_item, begins_expr};
 ghost use Rattle.vlog_parse.specs.Expressions.{is, mark, name, number, constant};
 ghost use Rattle.vlog_parse.specs.Items.{of_sort, direction, gate, value, opened};
@@ -88,11 +88,14 @@ impl<'a> Parser<'a> {
         self.rest.len()
     }
 
-    /// Whether no token is left.
-    pub fn is_at_end(&self) -> bool
-        ensures { IsTrue result ↔ (self.now ≡ []) }
+    /// The end of the text.
+    pub fn end(&self) -> Result<(), Stop>
+        ensures { Gives (end.read self.now) result self.now }
     {
-        self.rest.is_empty()
+        if self.rest.is_empty() {
+            return Ok(());
+        }
+        Err(Stop::Syntax)
     }
 
     /// A token of the sort.
