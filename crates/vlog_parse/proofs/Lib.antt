@@ -3,6 +3,7 @@ mod ExpressionLaws
 mod ItemLaws
 mod DesignLaws
 mod LoopLaws
+mod HeaderLaws
 mod CutLaws
 mod PartLaws
 mod SkipLaws

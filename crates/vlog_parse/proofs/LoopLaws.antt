@@ -6,11 +6,9 @@ use Rattle.grammar.specs.Outcomes.{took_rest, not_both_ways}
 use Rattle.grammar.specs.RepeatLaws.{Shrinks, with_first, repeat_takes, repeat_stops, repeat_ends}
 use Rattle.grammar.specs.ListLaws.{separated}
 use Rattle.grammar.specs.NestLaws.{Keeps}
-use Rattle.vlog_parse.specs.declared.tree.Decl.{Decl}
 use Rattle.vlog_parse.specs.declared.tree.Item.{Item}
-use Rattle.vlog_parse.specs.declared.parts.PortPart.{PortPart}
 use Rattle.vlog_parse.specs.Lexemes.{Lexeme}
-use Rattle.vlog_parse.specs.Design.{joined, declared_behind, carried}
+use Rattle.vlog_parse.specs.Design.{joined}
 
 -- what is read where these values were read before
 abbrev pub behind : {A : Type 0} → List A → Outcome Lexeme (List A) → Outcome Lexeme (List A)
@@ -67,18 +65,3 @@ pub list_taken : (passes : Lexeme → Bool) (rule : Rule Lexeme (List Item)) →
 list_taken passes rule s all done more ts rest xs before test e is =
     before ∙ ap (behind_joined done) (repeat_takes passes rule s ts rest xs test e) ∙ behind_joined-with_first done xs ((repeat passes rule).read rest)
     ∙ ap (λ ys. behind_joined ys ((repeat passes rule).read rest)) (sym is)
-
--- The ports of an ANSI header
-
--- the declaration that stands last
-abbrev pub last_decl : Decl → List PortPart → Decl
-last_decl before [] = before
-last_decl before (p ∷ more) = last_decl (declared_behind before p) more
-
-pub last_decl-append : (before : Decl) (parts : List PortPart) (p : PortPart) → last_decl before (parts ++ p ∷ []) ≡ declared_behind (last_decl before parts) p
-last_decl-append before [] p = refl
-last_decl-append before (q ∷ parts) p = last_decl-append (declared_behind before q) parts p
-
-pub carried-append : (before : Decl) (parts : List PortPart) (p : PortPart) → carried before (parts ++ p ∷ []) ≡ carried before parts ++ declared_behind (last_decl before parts) p ∷ []
-carried-append before [] p = refl
-carried-append before (q ∷ parts) p = ap (λ ds. declared_behind before q ∷ ds) (carried-append (declared_behind before q) parts p)

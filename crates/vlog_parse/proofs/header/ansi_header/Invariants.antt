@@ -1,7 +1,7 @@
 use Rattle.std.proofs.Common.{◌≡◌, ◌∷◌, map}
 use Rattle.vlog_parse.specs.declared.tree.Item.TheVariants.{Net}
 use Rattle.vlog_parse.specs.Design.{carried, decl_name}
-use Rattle.vlog_parse.proofs.LoopLaws.{last_decl}
+use Rattle.vlog_parse.proofs.HeaderLaws.{last_decl}
 use Rattle.vlog_parse.proofs.header.ansi_header.Given as goal
 
 abbrev pub invariant-parts : goal.invariant-parts
