@@ -49,6 +49,9 @@ pub base_fits : (cells : List Cell) (i : ℕ) (cell : Cell) → ((c : ℕ) (cell
     → base_of cells i + content_size cell.kind < 2 ^ 64
 base_fits cells i cell allowed few at = omega (arith, base_small cells i allowed, size_small cell.kind (allowed i cell at), few)
 
+pub bases_fit : (cells : List Cell) (i : ℕ) → ((c : ℕ) (cell : Cell) → slice_get cells c ≡ Some cell → IsAllowed cell.kind) → i ≤ 1048576 → base_of cells i < 2 ^ 64
+bases_fit cells i allowed few = omega (arith, base_small cells i allowed, few)
+
 -- a part of a list stays when the list grows
 drop_append : {A : Type 0} (n : ℕ) (xs ys : List A) → n ≤ length xs → drop n (xs ++ ys) ≡ drop n xs ++ ys
 drop_append zero xs ys low = refl

@@ -1,3 +1,4 @@
+pub mod PackedLemmas
 pub mod EvaluateLemmas
 pub mod SettleLemmas
 pub mod AdvanceLemmas

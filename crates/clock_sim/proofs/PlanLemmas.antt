@@ -20,6 +20,7 @@ use Rattle.clock_sim.specs.declared.plan.Slot.{Slot}
 use Rattle.clock_sim.specs.Reading.{place_of, net_bit, HasPins, HasMemoryPins}
 use Rattle.clock_sim.specs.Plan.{stored_bit, AreRowsTo, AreSlots, HasConstants, HasRowFor, IsStartTo, KeepsPlan}
 use Rattle.clock_sim.proofs.AdvanceLemmas.{there_is, base_apart}
+use Rattle.clock_sim.proofs.BuildLemmas.{bases_fit}
 
 ones_from : (n a : ℕ) → fold ◌+◌ a (replicate n 1) ≡ a + n
 ones_from zero a = omega arith
@@ -128,6 +129,7 @@ module _ (net : Netlist) (flat : IsFlat net) where
             let own = cell_at c row at in let own_row = flat.formed.rows c own.0 own.1 in
             subst (λ (n : ℕ). HasMemoryPins row.kind n) (sym (pin_size c own.0 row own.1 at))
             (subst (λ (kind : CellKind). HasMemoryPins kind (length own.0.ins)) (sym (told.each c own.0 row own.1 at).0) (memory_pins own.0.kind (length own.0.ins) own_row.allowed own_row.input_count)));
+        few = omega (arith, start.size, bases_fit net.cells (length net.cells) all_allowed few_cells);
       };
       slots_within = λ j slot at. (
           let own = slot_each.sound j slot at in

@@ -1,5 +1,5 @@
 -- The plan of a netlist, and what settling and advancing by it do.
-use Rattle.std.specs.Prelude.{◌≡◌, ◌≢◌, ℕ, ◌+◌, ◌-◌, ◌<◌, ◌≤◌, Bool, true, false, List, [], ◌∷◌, ◌++◌, if◌then◌else◌, slice_index, Option, None, length, take, sum_by, slice_get, slice_range, Some, ◌⊎◌}
+use Rattle.std.specs.Prelude.{◌≡◌, ◌≢◌, ℕ, ◌+◌, ◌-◌, ◌^◌, ◌<◌, ◌≤◌, Bool, true, false, List, [], ◌∷◌, ◌++◌, if◌then◌else◌, slice_index, Option, None, length, take, sum_by, slice_get, slice_range, Some, ◌⊎◌}
 use Rattle.net_core.specs.declared.kind.CellKind.{CellKind}
 use Rattle.net_core.specs.declared.parts.NetId.{NetId}
 use Rattle.net_core.specs.declared.parts.Cell.{Cell}
@@ -49,6 +49,7 @@ pub record IsWithin (pins : List ℕ) (rows : List Row) (stored : ℕ) : Type 0 
   pub ranges : (c : ℕ) (row : Row) → slice_get rows c ≡ Some row → (row.first ≤ row.last) × (row.last ≤ length pins)
   pub bases : (c : ℕ) (row : Row) → slice_get rows c ≡ Some row → row.base + content_size row.kind ≤ stored
   pub memories : (c : ℕ) (row : Row) → slice_get rows c ≡ Some row → HasMemoryPins row.kind (length (slice_range pins row.first row.last))
+  pub few : stored < 2 ^ 64
 
 -- the slot's cell has a row, with the pins that its evaluation asks
 abbrev pub HasRowFor : List ℕ → List Row → Slot → Type 0
@@ -146,7 +147,8 @@ abbrev pub all_slots : Netlist → List ℕ → ℕ → List Cell → List Slot
 all_slots net numbers c [] = []
 all_slots net numbers c (cell ∷ cells) = cell_slots net numbers c 0 cell.outs ++ all_slots net numbers (c + 1) cells
 
--- the stored bits of the first cells at clock 0
+-- place for the stored bits of all cells: those of the first cells are those at clock 0, and the others 0
 pub record IsStartTo (cells : List Cell) (i : ℕ) (stored : List Bool) : Type 0 where
-  pub size : length stored ≡ base_of cells i
+  pub size : length stored ≡ base_of cells (length cells)
   pub bits : (c : ℕ) (cell : Cell) (k : ℕ) → c < i → slice_get cells c ≡ Some cell → k < content_size cell.kind → stored_bit cells stored c k ≡ initial cell.kind k
+  pub later : (k : ℕ) → base_of cells i ≤ k → bit_at_place stored k ≡ false

@@ -12,6 +12,7 @@ ghost use Rattle.net_core.specs.declared.parts.Cell.{Cell as CellOf};
 ghost use Rattle.clock_sim.specs.Reading.{place_of, places_of};
 ghost use Rattle.clock_sim.specs.Plan.{base_of, stored_bit, AreRowsTo, AreSlots, IsPlan, HasConstants, IsStartTo, cell_slots, all_slots};
 
+use crate::bits::Bits;
 use crate::plan::{Row, Slot};
 use ila_base::NoMemory;
 use net_core::{Cell, CellKind, Flat, Group, NetId, Pin, Port};
@@ -204,16 +205,20 @@ fn initial_bit(kind: CellKind) -> bool
     }
 }
 
-/// The stored bits of the cells at clock 0, one cell's after the other's.
-pub fn start_stored(alloc: Global, cells: &[Cell]) -> Result<Vec<bool>, NoMemory>
+/// The stored bits of the cells at clock 0, one cell's after the other's: `count` bits in all.
+pub fn start_stored(alloc: Global, cells: &[Cell], count: usize) -> Result<Bits, NoMemory>
     requires few { length cells.now ≤ 1048576 }
     requires allowed { (c : ℕ) (cell : _) → slice_get cells.now c ≡ Some cell → kinds.IsAllowed cell.kind }
-    ensures { IfOk result (λ stored. IsStartTo cells.now (length cells.now) stored.items) }
+    requires count { count ≡ base_of cells.now (length cells.now) }
+    ensures { IfOk result (λ stored. IsStartTo cells.now (length cells.now) stored) }
 {
-    let mut stored = Vec::new(alloc);
+    let mut stored = Bits::zeros(alloc, count)?;
+    let mut base = 0usize;
     for cell in cells {
-        let end = stored.len() + content_size(cell.kind);
-        stored.resize(end, initial_bit(cell.kind))?;
+        if initial_bit(cell.kind) {
+            stored.set(base, true);
+        }
+        base += content_size(cell.kind);
     }
     Ok(stored)
 }

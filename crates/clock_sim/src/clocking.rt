@@ -5,14 +5,15 @@ ghost use Rattle.net_core.specs.declared.kind.CellKind.TheVariants.{Mem};
 ghost use Rattle.net_core.specs.Netlist.{Netlist};
 ghost use Rattle.clock_sim.specs.Plan.{IsPlan, IsWithin, AreWithin, HasRowFor, IsSettledTo, HasConstants, IsPlaced, HasRows, AdvancesRow, WritesRow, IsAdvancedTo};
 
-use crate::evaluate::{bit_number, next_bit, output, read, row_number};
+use crate::bits::Bits;
+use crate::evaluate::{next_bit, output, read, row_number};
 use crate::plan::{Row, Slot};
 use net_core::CellKind;
 
 /// Gives each net of the slots the bit of its output, one slot after the other. Where the slots are the
 /// data outputs of a netlist in the order of levels, each output then has the bit that the bits of all
 /// nets make.
-pub fn settle(values: &mut Vec<bool>, pins: &[u32], rows: &[Row], slots: &[Slot], stored: &[bool])
+pub fn settle(values: &mut Vec<bool>, pins: &[u32], rows: &[Row], slots: &[Slot], stored: &Bits)
     requires rows { IsWithin pins.now rows.now (length stored.now) }
     requires slots { AreWithin pins.now rows.now slots.now (length values.old.items) }
     requires constants { HasConstants values.old.items }
@@ -25,14 +26,14 @@ pub fn settle(values: &mut Vec<bool>, pins: &[u32], rows: &[Row], slots: &[Slot]
 }
 
 // The bit of an output, as the bits of the nets and the stored bits are now.
-fn slot_bit(values: &[bool], pins: &[u32], rows: &[Row], slot: &Slot, stored: &[bool]) -> bool
+fn slot_bit(values: &[bool], pins: &[u32], rows: &[Row], slot: &Slot, stored: &Bits) -> bool
     requires rows { IsWithin pins.now rows.now (length stored.now) }
     requires slot { HasRowFor pins.now rows.now slot.now }
     ensures { (row : _) → slice_get rows.now slot.now.cell ≡ Some row → result ≡ kinds.output row.kind (read_all values.now (slice_range pins.now row.first row.last)) (λ _. bit_at_place stored.now row.base) slot.now.out }
 {
     let row = rows[slot.cell as usize];
     let own = &pins[row.first as usize..row.last as usize];
-    let kept = bit_number(stored, row.base);
+    let kept = stored.get(row.base);
     output(row.kind, values, own, kept, slot.out as usize)
 }
 
@@ -49,9 +50,9 @@ pub fn place_inputs(values: &mut Vec<bool>, inputs: &[u32], row: &[bool])
 
 /// Gives each cell the stored bits of the next clock. The stored bits of the cells stand one after the
 /// other, so that no cell's are changed by another.
-pub fn advance(stored: &mut Vec<bool>, values: &[bool], pins: &[u32], rows: &[Row])
-    requires rows { IsWithin pins.now rows.now (length stored.old.items) }
-    ensures { (net : Netlist) → HasRows net values.now pins.now rows.now → IsAdvancedTo net values.now (length rows.now) stored.old.items stored.new.items }
+pub fn advance(stored: &mut Bits, values: &[bool], pins: &[u32], rows: &[Row])
+    requires rows { IsWithin pins.now rows.now (length stored.old) }
+    ensures { (net : Netlist) → HasRows net values.now pins.now rows.now → IsAdvancedTo net values.now (length rows.now) stored.old stored.new }
 {
     for row in rows {
         let own = &pins[row.first as usize..row.last as usize];
@@ -60,38 +61,33 @@ pub fn advance(stored: &mut Vec<bool>, values: &[bool], pins: &[u32], rows: &[Ro
 }
 
 // The stored bits of one cell.
-fn advance_row(stored: &mut Vec<bool>, values: &[bool], own: &[u32], row: &Row)
-    requires base { row.now.base + kinds.content_size row.now.kind ≤ length stored.old.items }
+fn advance_row(stored: &mut Bits, values: &[bool], own: &[u32], row: &Row)
+    requires few { length stored.old < 2 ^ 64 }
+    requires base { row.now.base + kinds.content_size row.now.kind ≤ length stored.old }
     requires memory { HasMemoryPins row.now.kind (length own.now) }
-    ensures { AdvancesRow row.now.kind row.now.base (read_all values.now own.now) stored.old.items stored.new.items }
+    ensures { AdvancesRow row.now.kind row.now.base (read_all values.now own.now) stored.old stored.new }
 {
     match row.kind {
         CellKind::Mem { aw, dw } => {
             write_memory(stored, values, own, row.base, aw as usize, dw as usize)
         }
         CellKind::Fdre(_) | CellKind::Fdse(_) | CellKind::Fdce(_) | CellKind::Fdpe(_) => {
-            let bit = next_bit(row.kind, values, own, stored[row.base]);
-            stored[row.base] = bit;
+            let bit = next_bit(row.kind, values, own, stored.get(row.base));
+            stored.set(row.base, bit);
         }
         _ => {}
     }
 }
 
 // Writes the row of a memory, where WE is 1.
-fn write_memory(
-    stored: &mut Vec<bool>,
-    values: &[bool],
-    own: &[u32],
-    base: usize,
-    aw: usize,
-    dw: usize,
-)
-    requires base { base + 2 ^ aw * dw ≤ length stored.old.items }
+fn write_memory(stored: &mut Bits, values: &[bool], own: &[u32], base: usize, aw: usize, dw: usize)
+    requires few { length stored.old < 2 ^ 64 }
+    requires base { base + 2 ^ aw * dw ≤ length stored.old }
     requires pins { length own.now ≡ 1 + aw + dw }
     requires address { aw ≤ 17 }
     requires width { 0 < dw }
     requires small { dw < 2 ^ 16 }
-    ensures { AdvancesRow (Mem aw dw) base (read_all values.now own.now) stored.old.items stored.new.items }
+    ensures { AdvancesRow (Mem aw dw) base (read_all values.now own.now) stored.old stored.new }
 {
     if !read(values, own, 0) {
         return;
@@ -101,19 +97,13 @@ fn write_memory(
 }
 
 // Writes a row from its first bit on. The lowest bit is that of the last pin.
-fn write_row(
-    stored: &mut Vec<bool>,
-    values: &[bool],
-    own: &[u32],
-    start: usize,
-    last: usize,
-    dw: usize,
-)
-    requires room { start + dw ≤ length stored.old.items }
+fn write_row(stored: &mut Bits, values: &[bool], own: &[u32], start: usize, last: usize, dw: usize)
+    requires few { length stored.old < 2 ^ 64 }
+    requires room { start + dw ≤ length stored.old }
     requires last { dw ≤ last }
-    ensures { WritesRow start last dw (read_all values.now own.now) stored.old.items stored.new.items }
+    ensures { WritesRow start last dw (read_all values.now own.now) stored.old stored.new }
 {
     for bit in 0..dw {
-        stored[start + bit] = read(values, own, last - bit);
+        stored.set(start + bit, read(values, own, last - bit));
     }
 }

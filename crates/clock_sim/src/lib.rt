@@ -1,6 +1,7 @@
 //! The plain simulator: every cell evaluated at each clock, in the order of levels.
 #![tactic(auto)]
 
+mod bits;
 mod build;
 mod clocking;
 mod evaluate;

@@ -4,6 +4,7 @@ ghost use Rattle.net_levels.specs.Levels.{AreLevels};
 ghost use Rattle.net_core.specs.Run.{StandsFor};
 ghost use Rattle.clock_sim.specs.Plan.{net_bits, net_content};
 
+use crate::bits::Bits;
 use crate::build::{count_nets, data_inputs, ordered_slots, push_rows, start_stored, start_values};
 use crate::clocking::{advance, place_inputs, settle};
 use crate::evaluate::bit_number;
@@ -24,7 +25,7 @@ pub struct Plain<'a> {
     rows: Vec<Row>,
     slots: Vec<Slot>,
     values: Vec<bool>,
-    stored: Vec<bool>,
+    stored: Bits,
 }
 
 impl<'a> Model for Plain<'a> {
@@ -32,9 +33,9 @@ impl<'a> Model for Plain<'a> {
 
     ghost Value = { State };
 
-    ghost view = { λ plain. record { net = plain.flat.now; values = plain.values.items; stored = plain.stored.items } };
+    ghost view = { λ plain. record { net = plain.flat.now; values = plain.values.items; stored = plain.stored } };
 
-    ghost invariant = { λ plain. KeepsPlan plain.flat.now plain.inputs.items plain.pins.items plain.rows.items plain.slots.items plain.values.items plain.stored.items };
+    ghost invariant = { λ plain. KeepsPlan plain.flat.now plain.inputs.items plain.pins.items plain.rows.items plain.slots.items plain.values.items plain.stored };
 }
 
 impl<'a> Plain<'a> {
@@ -48,10 +49,10 @@ impl<'a> Plain<'a> {
         let inputs = data_inputs(alloc, flat)?;
         let mut pins = Vec::new(alloc);
         let mut rows = Vec::new(alloc);
-        push_rows(&mut pins, &mut rows, flat.cells())?;
+        let count = push_rows(&mut pins, &mut rows, flat.cells())?;
         let slots = ordered_slots(alloc, flat, levels)?;
         let values = start_values(alloc, count_nets(flat.groups()))?;
-        let stored = start_stored(alloc, flat.cells())?;
+        let stored = start_stored(alloc, flat.cells(), count)?;
         Ok(Plain {
             flat,
             inputs,
@@ -78,7 +79,7 @@ impl<'a> Machine for Plain<'a> {
             self.pins.as_slice(),
             self.rows.as_slice(),
             self.slots.as_slice(),
-            self.stored.as_slice(),
+            &self.stored,
         );
         advance(
             &mut self.stored,
@@ -94,6 +95,6 @@ impl<'a> Machine for Plain<'a> {
 
     fn stored(&self, cell: CellId, index: u32) -> bool {
         let base = self.rows[cell.0 as usize].base;
-        bit_number(self.stored.as_slice(), base + index as usize)
+        self.stored.get(base + index as usize)
     }
 }

@@ -10,6 +10,6 @@ loop-row-preserved c =
     let at = slice_get-get_or c.args.rows.now c.loop-row.row-index (record { kind = Gate And; first = 0; last = 0; base = 0 }) c.loop-row-test.true in
     let row = get_or c.args.rows.now c.loop-row.row-index (record { kind = Gate And; first = 0; last = 0; base = 0 }) in (
       c.advance_row.ensures.size ∙ c.loop-row.invariant.0,
-      λ net has. advanced_more net c.args.values.now c.args.pins.now c.args.rows.now has c.loop-row.row-index row c.args.stored.now.items c.loop-row.stored.items c.advance_row.new.stored.items at
+      λ net has. advanced_more net c.args.values.now c.args.pins.now c.args.rows.now has c.loop-row.row-index row c.args.stored.now c.loop-row.stored c.advance_row.new.stored at
           c.loop-row-test.true c.advance_row.ensures (c.loop-row.invariant.1 net has),
     )

@@ -6,5 +6,5 @@ use Rattle.clock_sim.proofs.clocking.advance.Given as goal
 -- what holds so far, of whatever netlist these are the rows
 abbrev pub invariant-loop-row : goal.invariant-loop-row
 invariant-loop-row l =
-    (length l.stored.items ≡ length l.initial.stored.items)
-    × ((net : Netlist) → HasRows net l.values l.pins l.rows → IsAdvancedTo net l.values l.row-index l.initial.stored.items l.stored.items)
+    (length l.stored ≡ length l.initial.stored)
+    × ((net : Netlist) → HasRows net l.values l.pins l.rows → IsAdvancedTo net l.values l.row-index l.initial.stored l.stored)

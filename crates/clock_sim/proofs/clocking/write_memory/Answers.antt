@@ -17,5 +17,5 @@ returns c =
     ∙ ap binary (sym (take-map (bit_at_place c.args.values.now) c.args.aw (drop 1 c.args.own.now)))
     ∙ ap (λ xs. binary (take c.args.aw xs)) (sym (drop-map (bit_at_place c.args.values.now) 1 c.args.own.now)) in
     let small : c.row_number.result < 2 ^ c.args.aw = subst (λ (n : ℕ). c.row_number.result < 2 ^ n) size c.row_number.ensures.small in
-    memory_advanced c.args.aw c.args.dw c.args.base c.row_number.result (c.args.base + c.row_number.result * c.args.dw) (read_all c.args.values.now c.args.own.now) c.args.stored.now.items c.write_row.new.stored.items
+    memory_advanced c.args.aw c.args.dw c.args.base c.row_number.result (c.args.base + c.row_number.result * c.args.dw) (read_all c.args.values.now c.args.own.now) c.args.stored.now c.write_row.new.stored
     c.requires.width (sym c.if-not-read.ensures) address small refl c.write_row.ensures

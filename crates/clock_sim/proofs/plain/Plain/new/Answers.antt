@@ -21,20 +21,20 @@ start_stored-requires-clause-allowed c = λ d cell at. all_allowed c.args.flat.n
 
 pub invariant_of-result : goal.invariant_of-result
 invariant_of-result c =
-    let told : AreRowsTo c.args.flat.now.cells (length c.args.flat.now.cells) c.push_rows.new.places.items c.push_rows.new.rows.items c.in_ok-push_rows.field-0 =
-    subst (λ (cells : List Cell). AreRowsTo cells (length cells) c.push_rows.new.places.items c.push_rows.new.rows.items c.in_ok-push_rows.field-0) c.cells.ensures.value c.in_ok-push_rows.ensures in
-    let start : IsStartTo c.args.flat.now.cells (length c.args.flat.now.cells) c.in_ok-stored.stored.items =
-    subst (λ (cells : List Cell). IsStartTo cells (length cells) c.in_ok-stored.stored.items) c.cells-2.ensures.value c.in_ok-stored.ensures in
+    let told : AreRowsTo c.args.flat.now.cells (length c.args.flat.now.cells) c.push_rows.new.places.items c.push_rows.new.rows.items c.in_ok-count.count =
+    subst (λ (cells : List Cell). AreRowsTo cells (length cells) c.push_rows.new.places.items c.push_rows.new.rows.items c.in_ok-count.count) c.cells.ensures.value c.in_ok-count.ensures in
+    let start : IsStartTo c.args.flat.now.cells (length c.args.flat.now.cells) c.in_ok-stored.stored =
+    subst (λ (cells : List Cell). IsStartTo cells (length cells) c.in_ok-stored.stored) c.cells-2.ensures.value c.in_ok-stored.ensures in
     keeps_new c.args.flat.now c.cells.ensures.kept c.args.levels.now c.in_ok-inputs.inputs.items c.push_rows.new.places.items c.push_rows.new.rows.items c.in_ok-slots.slots.items
-    c.in_ok-values.values.items c.in_ok-stored.stored.items c.in_ok-push_rows.field-0 c.requires.ranked c.in_ok-inputs.ensures told c.in_ok-slots.ensures
+    c.in_ok-values.values.items c.in_ok-stored.stored c.in_ok-count.count c.requires.ranked c.in_ok-inputs.ensures told c.in_ok-slots.ensures
     (omega (arith, c.in_ok-values.ensures.size, c.count_nets.ensures, ap net_count c.groups.ensures.value)) c.in_ok-values.ensures.constants start
 
 pub returns-clause-stands : goal.returns-clause-stands
 returns-clause-stands c =
-    let told : AreRowsTo c.args.flat.now.cells (length c.args.flat.now.cells) c.push_rows.new.places.items c.push_rows.new.rows.items c.in_ok-push_rows.field-0 =
-    subst (λ (cells : List Cell). AreRowsTo cells (length cells) c.push_rows.new.places.items c.push_rows.new.rows.items c.in_ok-push_rows.field-0) c.cells.ensures.value c.in_ok-push_rows.ensures in
-    let start : IsStartTo c.args.flat.now.cells (length c.args.flat.now.cells) c.in_ok-stored.stored.items =
-    subst (λ (cells : List Cell). IsStartTo cells (length cells) c.in_ok-stored.stored.items) c.cells-2.ensures.value c.in_ok-stored.ensures in
+    let told : AreRowsTo c.args.flat.now.cells (length c.args.flat.now.cells) c.push_rows.new.places.items c.push_rows.new.rows.items c.in_ok-count.count =
+    subst (λ (cells : List Cell). AreRowsTo cells (length cells) c.push_rows.new.places.items c.push_rows.new.rows.items c.in_ok-count.count) c.cells.ensures.value c.in_ok-count.ensures in
+    let start : IsStartTo c.args.flat.now.cells (length c.args.flat.now.cells) c.in_ok-stored.stored =
+    subst (λ (cells : List Cell). IsStartTo cells (length cells) c.in_ok-stored.stored) c.cells-2.ensures.value c.in_ok-stored.ensures in
     stands_new c.args.flat.now c.cells.ensures.kept c.args.levels.now c.in_ok-inputs.inputs.items c.push_rows.new.places.items c.push_rows.new.rows.items c.in_ok-slots.slots.items
-    c.in_ok-values.values.items c.in_ok-stored.stored.items c.in_ok-push_rows.field-0 c.requires.ranked c.in_ok-inputs.ensures told c.in_ok-slots.ensures
+    c.in_ok-values.values.items c.in_ok-stored.stored c.in_ok-count.count c.requires.ranked c.in_ok-inputs.ensures told c.in_ok-slots.ensures
     (omega (arith, c.in_ok-values.ensures.size, c.count_nets.ensures, ap net_count c.groups.ensures.value)) c.in_ok-values.ensures.constants start

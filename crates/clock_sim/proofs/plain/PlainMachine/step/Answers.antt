@@ -16,31 +16,30 @@ placed : (c : After-advance) → IsPlaced c.self.inside.inputs.items c.args.inpu
 placed c = subst (λ (xs : List ℕ). IsPlaced xs c.args.inputs.now (length xs) c.self.inside.values.items c.place_inputs.new.values.items) c.as_slice.ensures.value c.place_inputs.ensures
 
 settled : (c : After-advance) → (net : Netlist) (rank : ℕ → ℕ) → IsPlan net rank c.self.inside.pins.items c.self.inside.rows.items c.self.inside.slots.items
-    → IsSettledTo net c.self.inside.slots.items c.self.inside.stored.items (length c.self.inside.slots.items) c.place_inputs.new.values.items c.settle.new.values.items
+    → IsSettledTo net c.self.inside.slots.items c.self.inside.stored (length c.self.inside.slots.items) c.place_inputs.new.values.items c.settle.new.values.items
 settled c =
-    subst (λ (pins : List ℕ). (net : Netlist) (rank : ℕ → ℕ) → IsPlan net rank pins c.self.inside.rows.items c.self.inside.slots.items → IsSettledTo net c.self.inside.slots.items c.self.inside.stored.items (length c.self.inside.slots.items) c.place_inputs.new.values.items c.settle.new.values.items) c.as_slice-2.ensures.value
-    (subst (λ (rows : List Row). (net : Netlist) (rank : ℕ → ℕ) → IsPlan net rank c.as_slice-2.result.now rows c.self.inside.slots.items → IsSettledTo net c.self.inside.slots.items c.self.inside.stored.items (length c.self.inside.slots.items) c.place_inputs.new.values.items c.settle.new.values.items) c.as_slice-3.ensures.value
-    (subst (λ (slots : List Slot). (net : Netlist) (rank : ℕ → ℕ) → IsPlan net rank c.as_slice-2.result.now c.as_slice-3.result.now slots → IsSettledTo net slots c.self.inside.stored.items (length slots) c.place_inputs.new.values.items c.settle.new.values.items) c.as_slice-4.ensures.value
-    (subst (λ (stored : List Bool). (net : Netlist) (rank : ℕ → ℕ) → IsPlan net rank c.as_slice-2.result.now c.as_slice-3.result.now c.as_slice-4.result.now → IsSettledTo net c.as_slice-4.result.now stored (length c.as_slice-4.result.now) c.place_inputs.new.values.items c.settle.new.values.items) c.as_slice-5.ensures.value
-    c.settle.ensures)))
+    subst (λ (pins : List ℕ). (net : Netlist) (rank : ℕ → ℕ) → IsPlan net rank pins c.self.inside.rows.items c.self.inside.slots.items → IsSettledTo net c.self.inside.slots.items c.self.inside.stored (length c.self.inside.slots.items) c.place_inputs.new.values.items c.settle.new.values.items) c.as_slice-2.ensures.value
+    (subst (λ (rows : List Row). (net : Netlist) (rank : ℕ → ℕ) → IsPlan net rank c.as_slice-2.result.now rows c.self.inside.slots.items → IsSettledTo net c.self.inside.slots.items c.self.inside.stored (length c.self.inside.slots.items) c.place_inputs.new.values.items c.settle.new.values.items) c.as_slice-3.ensures.value
+    (subst (λ (slots : List Slot). (net : Netlist) (rank : ℕ → ℕ) → IsPlan net rank c.as_slice-2.result.now c.as_slice-3.result.now slots → IsSettledTo net slots c.self.inside.stored (length slots) c.place_inputs.new.values.items c.settle.new.values.items) c.as_slice-4.ensures.value
+    c.settle.ensures))
 
 advanced : (c : After-advance) → (net : Netlist) → HasRows net c.settle.new.values.items c.self.inside.pins.items c.self.inside.rows.items
-    → IsAdvancedTo net c.settle.new.values.items (length c.self.inside.rows.items) c.self.inside.stored.items c.advance.new.stored.items
+    → IsAdvancedTo net c.settle.new.values.items (length c.self.inside.rows.items) c.self.inside.stored c.advance.new.stored
 advanced c =
-    subst (λ (values : List Bool). (net : Netlist) → HasRows net values c.self.inside.pins.items c.self.inside.rows.items → IsAdvancedTo net values (length c.self.inside.rows.items) c.self.inside.stored.items c.advance.new.stored.items) c.as_slice-6.ensures.value
-    (subst (λ (pins : List ℕ). (net : Netlist) → HasRows net c.as_slice-6.result.now pins c.self.inside.rows.items → IsAdvancedTo net c.as_slice-6.result.now (length c.self.inside.rows.items) c.self.inside.stored.items c.advance.new.stored.items) c.as_slice-7.ensures.value
-    (subst (λ (rows : List Row). (net : Netlist) → HasRows net c.as_slice-6.result.now c.as_slice-7.result.now rows → IsAdvancedTo net c.as_slice-6.result.now (length rows) c.self.inside.stored.items c.advance.new.stored.items) c.as_slice-8.ensures.value
+    subst (λ (values : List Bool). (net : Netlist) → HasRows net values c.self.inside.pins.items c.self.inside.rows.items → IsAdvancedTo net values (length c.self.inside.rows.items) c.self.inside.stored c.advance.new.stored) c.as_slice-5.ensures.value
+    (subst (λ (pins : List ℕ). (net : Netlist) → HasRows net c.as_slice-5.result.now pins c.self.inside.rows.items → IsAdvancedTo net c.as_slice-5.result.now (length c.self.inside.rows.items) c.self.inside.stored c.advance.new.stored) c.as_slice-6.ensures.value
+    (subst (λ (rows : List Row). (net : Netlist) → HasRows net c.as_slice-5.result.now c.as_slice-6.result.now rows → IsAdvancedTo net c.as_slice-5.result.now (length rows) c.self.inside.stored c.advance.new.stored) c.as_slice-7.ensures.value
     c.advance.ensures))
 
 pub invariant_of-self : goal.invariant_of-self
 invariant_of-self c =
-    keeps_after c.self.inside.flat.now c.self.inside.inputs.items c.self.inside.pins.items c.self.inside.rows.items c.self.inside.slots.items c.self.inside.values.items c.self.inside.stored.items c.self.invariant
-    c.args.inputs.now c.place_inputs.new.values.items c.settle.new.values.items c.advance.new.stored.items (size c) (placed c) (settled c) (advanced c)
+    keeps_after c.self.inside.flat.now c.self.inside.inputs.items c.self.inside.pins.items c.self.inside.rows.items c.self.inside.slots.items c.self.inside.values.items c.self.inside.stored c.self.invariant
+    c.args.inputs.now c.place_inputs.new.values.items c.settle.new.values.items c.advance.new.stored (size c) (placed c) (settled c) (advanced c)
 
 pub returns-clause-stands : goal.returns-clause-stands
 returns-clause-stands c = λ history stands.
-    let before : StandsFor c.self.inside.flat.now (net_bit c.self.inside.values.items) (stored_bit c.self.inside.flat.now.cells c.self.inside.stored.items) history =
+    let before : StandsFor c.self.inside.flat.now (net_bit c.self.inside.values.items) (stored_bit c.self.inside.flat.now.cells c.self.inside.stored) history =
     subst (λ (state : State). StandsFor state.net (net_bits state) (net_content state) history) (sym c.self.view_is) stands in
-    subst (λ (net : Netlist). StandsFor net (net_bit c.settle.new.values.items) (stored_bit c.self.inside.flat.now.cells c.advance.new.stored.items) (history ++ c.args.inputs.now ∷ [])) (ap (λ (state : State). state.net) c.self.view_is)
-    (stands_after c.self.inside.flat.now c.self.inside.inputs.items c.self.inside.pins.items c.self.inside.rows.items c.self.inside.slots.items c.self.inside.values.items c.self.inside.stored.items c.self.invariant
-    c.args.inputs.now c.place_inputs.new.values.items c.settle.new.values.items c.advance.new.stored.items (size c) (placed c) (settled c) (advanced c) history before)
+    subst (λ (net : Netlist). StandsFor net (net_bit c.settle.new.values.items) (stored_bit c.self.inside.flat.now.cells c.advance.new.stored) (history ++ c.args.inputs.now ∷ [])) (ap (λ (state : State). state.net) c.self.view_is)
+    (stands_after c.self.inside.flat.now c.self.inside.inputs.items c.self.inside.pins.items c.self.inside.rows.items c.self.inside.slots.items c.self.inside.values.items c.self.inside.stored c.self.invariant
+    c.args.inputs.now c.place_inputs.new.values.items c.settle.new.values.items c.advance.new.stored (size c) (placed c) (settled c) (advanced c) history before)
