@@ -6,3 +6,4 @@ pub mod Design
 pub mod Giving
 pub mod Readers
 pub mod Skipping
+pub mod Limits

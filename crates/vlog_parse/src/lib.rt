@@ -9,6 +9,7 @@ mod header;
 mod instances;
 mod items;
 mod lexeme;
+mod limits;
 mod list;
 mod modules;
 mod params;

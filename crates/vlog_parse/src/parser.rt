@@ -1,11 +1,15 @@
-ghost use Rattle.std.specs.Prelude.{◌≡◌, length};
-ghost use Rattle.grammar.specs.Rule.{looks, end};
+ghost use Rattle.std.specs.Prelude.{◌≡◌, length, drop};
+ghost use Rattle.grammar.specs.Rule.{first, looks, end};
+ghost use Rattle.vlog_parse.specs.Lexemes.{lexemes, AreWithin};
 ghost use Rattle.vlog_parse.specs.Sorts.{is_direction, is_gate, begins_item, begins_expr};
 ghost use Rattle.vlog_parse.specs.Expressions.{is, mark, name, number, constant};
-ghost use Rattle.vlog_parse.specs.Items.{of_sort, direction, gate, value, opened};
+ghost use Rattle.vlog_parse.specs.Items.{of_sort, direction, gate, value, opened, place_of};
+ghost use Rattle.std.specs.Option.{option_map};
+ghost use Rattle.vlog_parse.specs.Limits.{seen_of};
 ghost use Rattle.vlog_parse.specs.Giving.{Gives};
 
 use crate::lexeme::{bytes_of, name_of, number_of, sort_of, word_of};
+use crate::limits::Seen;
 use crate::parts::Named;
 use crate::sort::Sort;
 use crate::stop::Stop;
@@ -35,6 +39,14 @@ impl<'a> Model for Parser<'a> {
 }
 
 impl<'a> Parser<'a> {
+    /// The parser of a text's tokens.
+    pub fn new(text: &'a [u8], tokens: &'a [Token]) -> Parser<'a>
+        requires { AreWithin (length text.now) tokens.now }
+        ensures { result ≡ lexemes text.now tokens.now }
+    {
+        Parser { text, rest: tokens }
+    }
+
     /// Whether the next token is of the sort.
     pub fn sees(&self, sort: Sort) -> bool
         ensures { result ≡ looks (is sort) self.now }
@@ -86,6 +98,35 @@ impl<'a> Parser<'a> {
         ensures { result ≡ length self.now }
     {
         self.rest.len()
+    }
+
+    /// The place of the next token, if there is one.
+    pub fn place(&self) -> Option<Place>
+        ensures { result ≡ option_map place_of (first self.now) }
+    {
+        match self.rest.first() {
+            Some(token) => Some(token.place),
+            None => None,
+        }
+    }
+
+    /// Takes the next token, if there is one, whatever it is.
+    pub fn take(&mut self) -> Option<Seen>
+        ensures token { result ≡ option_map seen_of (first self.old) }
+        ensures rest { self.new ≡ drop 1 self.old }
+    {
+        match self.rest.split_first() {
+            Some((token, rest)) => {
+                let sort = sort_of(token.kind, bytes_of(self.text, token));
+                self.rest = rest;
+                Some(Seen {
+                    sort,
+                    number: number_of(token.kind),
+                    place: token.place,
+                })
+            }
+            None => None,
+        }
     }
 
     /// The end of the text.
