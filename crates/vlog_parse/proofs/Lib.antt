@@ -5,5 +5,7 @@ mod DesignLaws
 mod LoopLaws
 mod HeaderLaws
 mod CutLaws
+mod MapLaws
+mod MapRules
 mod PartLaws
 mod SkipLaws
