@@ -119,7 +119,7 @@ closed parts = do
 abbrev inside : Rule Lexeme Expr → Rule Lexeme Expr
 inside expr = args expr >>= closed
 
-concatenation_rises : (one other : Rule Lexeme Expr) → IsPart one.words other.words → IsPart (concatenation one).words (concatenation other).words
+pub concatenation_rises : (one other : Rule Lexeme Expr) → IsPart one.words other.words → IsPart (concatenation one).words (concatenation other).words
 concatenation_rises one other part ts e (f, b, u, cut, w, (g, c, parts, cut_b, ws, v)) =
     (f, b, u, cut, w, (g, c, parts, cut_b, list_rises (is Comma) one other part g parts ws, v))
 
@@ -135,7 +135,7 @@ more_rises (suc k) n ts e w =
     let z : suc (k + n) ≡ suc k + n = omega arith in
     subst P z (next_rises (k + n) ts e (more_rises k n ts e w))
 
-rises : (n m : ℕ) → n ≤ m → (ts : List Lexeme) (e : Expr) → (expr_within n).words ts e → (expr_within m).words ts e
+pub rises : (n m : ℕ) → n ≤ m → (ts : List Lexeme) (e : Expr) → (expr_within n).words ts e → (expr_within m).words ts e
 rises n m less ts e w =
     let P : ℕ → Type 0 = λ k. (expr_within k).words ts e in
     let z : (m - n) + n ≡ m = omega (arith, less) in

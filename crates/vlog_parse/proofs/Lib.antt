@@ -7,5 +7,7 @@ mod HeaderLaws
 mod CutLaws
 mod MapLaws
 mod MapRules
+mod DepthLaws
+mod BraceLaws
 mod PartLaws
 mod SkipLaws

@@ -7,3 +7,4 @@ pub mod Giving
 pub mod Readers
 pub mod Skipping
 pub mod Limits
+pub mod Parsing
