@@ -83,7 +83,7 @@ balanced_words : {A : Type 0} (rule : Rule Lexeme A) → Balanced A rule → (ts
 balanced_words rule one ts [] w = along ts [] w refl
 balanced_words rule one ts (x ∷ xs) (front, back, whole, w, ws) = balanced_parts ts front back whole (one.counts front x w) (balanced_words rule one back xs ws)
 
-comma_balanced : Balanced (Unit {0}) (mark Comma)
+pub comma_balanced : Balanced (Unit {0}) (mark Comma)
 comma_balanced = balanced_token Comma (λ _. tt {0}) (excludes (is Comma) (sees (is LeftBrace)) (λ t. refl) (λ t. refl) refl) (excludes (is Comma) (sees (is RightBrace)) (λ t. refl) (λ t. refl) refl)
 
 pub next_balanced : (rule : Rule Lexeme Expr) → Balanced Expr rule → Balanced Expr (separated (is Comma) rule)

@@ -9,5 +9,7 @@ mod MapLaws
 mod MapRules
 mod DepthLaws
 mod BraceLaws
+mod NestingLaws
+mod LimitLaws
 mod PartLaws
 mod SkipLaws
