@@ -11,5 +11,6 @@ mod DepthLaws
 mod BraceLaws
 mod NestingLaws
 mod LimitLaws
+mod ParseLaws
 mod PartLaws
 mod SkipLaws

@@ -44,9 +44,9 @@ left false k = closing k
 
 -- one turn of skipping: it takes a token, and what was left to read is what is left now
 abbrev pub Turns : Skip → List Lexeme → Result Skip Stop → List Lexeme → Type 0
-Turns skip before (Ok next) after = ((left skip.wants skip.open).read before ≡ (left next.wants next.open).read after)
-    × (length after < length before) × (next.open + length after ≤ skip.open + length before)
-Turns skip before (Err Syntax) after = (left skip.wants skip.open).read before ≡ Stuck after
+Turns skip before (Ok next) after = ((left skip.wants skip.depth).read before ≡ (left next.wants next.depth).read after)
+    × (length after < length before) × (next.depth + length after ≤ skip.depth + length before)
+Turns skip before (Err Syntax) after = (left skip.wants skip.depth).read before ≡ Stuck after
 Turns skip before (Err NoMemory) after = Unit {0}
 
 -- an expression, with the parts of concatenations that stand in fewer than 32 others

@@ -18,7 +18,7 @@ pub struct Skip {
     /// Whether an expression comes next.
     pub wants: bool,
     /// How many braces are open.
-    pub open: usize,
+    pub depth: usize,
 }
 
 impl<'a> Parser<'a> {
@@ -26,20 +26,20 @@ impl<'a> Parser<'a> {
     #[tactic(auto, using(crate::proofs::SkipLaws::turn_open, crate::proofs::SkipLaws::stop_operand))]
     fn skip_into(&mut self, alloc: Global, skip: Skip) -> Result<Skip, Stop>
         requires wants { skip.wants ≡ true }
-        requires room { skip.open + length self.old < 2 ^ 64 }
+        requires room { skip.depth + length self.old < 2 ^ 64 }
         ensures { Turns skip self.old result self.new }
     {
         if self.sees(Sort::LeftBrace) {
             self.mark(Sort::LeftBrace)?;
             return Ok(Skip {
                 wants: true,
-                open: skip.open + 1,
+                depth: skip.depth + 1,
             });
         }
         let _ = self.operand(alloc)?;
         Ok(Skip {
             wants: false,
-            open: skip.open,
+            depth: skip.depth,
         })
     }
 
@@ -47,20 +47,20 @@ impl<'a> Parser<'a> {
     #[tactic(auto, using(crate::proofs::SkipLaws::turn_close, crate::proofs::SkipLaws::turn_comma, crate::proofs::SkipLaws::stop_comma))]
     fn skip_behind(&mut self, skip: Skip) -> Result<Skip, Stop>
         requires wants { skip.wants ≡ false }
-        requires some { 0 < skip.open }
+        requires some { 0 < skip.depth }
         ensures { Turns skip self.old result self.new }
     {
         if self.sees(Sort::RightBrace) {
             self.mark(Sort::RightBrace)?;
             return Ok(Skip {
                 wants: false,
-                open: skip.open - 1,
+                depth: skip.depth - 1,
             });
         }
         self.mark(Sort::Comma)?;
         Ok(Skip {
             wants: true,
-            open: skip.open,
+            depth: skip.depth,
         })
     }
 
@@ -71,9 +71,9 @@ impl<'a> Parser<'a> {
         let limit = self.left();
         let mut skip = Skip {
             wants: true,
-            open: 0,
+            depth: 0,
         };
-        'turns: while skip.wants || skip.open > 0 {
+        'turns: while skip.wants || skip.depth > 0 {
             skip = if skip.wants {
                 self.skip_into(alloc, skip)?
             } else {
