@@ -1,6 +1,6 @@
 -- The braces in the words of expressions: as many are closed as are opened.
-use Rattle.std.proofs.Common.{◌≡◌, refl, sym, ◌∙◌, ap, subst, ℕ, zero, suc, ◌+◌, ◌<◌, ◌≤◌, Bool, true, false, List, [], ◌∷◌, ◌++◌, inl, inr, arith, append_assoc, append-nil}
-use Rattle.grammar.specs.Rule.{Rule, term, token, pure, ◌>>=◌, either, AreWords, repeat, list}
+use Rattle.std.proofs.Common.{◌≡◌, refl, sym, ◌∙◌, ap, ℕ, zero, suc, ◌+◌, Bool, true, false, List, [], ◌∷◌, ◌++◌, inl, inr, arith}
+use Rattle.grammar.specs.Rule.{Rule, term, pure, ◌>>=◌, either, AreWords, repeat}
 use Rattle.grammar.specs.Good.{Excludes, sees}
 use Rattle.grammar.specs.ListLaws.{separated}
 use Rattle.vlog_parse.specs.declared.tree.Expr.{Expr}
@@ -8,11 +8,10 @@ use Rattle.vlog_parse.specs.declared.parts.Named.{Named}
 use Rattle.vlog_parse.specs.declared.sort.Sort.{Sort}
 use Rattle.vlog_parse.specs.declared.sort.Sort.TheVariants.{LeftBrace, RightBrace, LeftBracket, RightBracket, Comma, Colon, Name, Number, Sized}
 use Rattle.vlog_parse.specs.Lexemes.{Lexeme}
-use Rattle.vlog_parse.specs.Expressions.{is, mark, name, number, part_behind, bit_behind, select_behind, reference, constant, operand, args, concatenation, expr_over, expr_within, expr}
+use Rattle.vlog_parse.specs.Expressions.{is, mark, name, number, part_behind, bit_behind, select_behind, reference, constant, operand, args, concatenation, expr_within}
 use Rattle.vlog_parse.specs.Skipping.{cut_within}
 use Rattle.vlog_parse.proofs.SortLaws.{excludes}
-use Rattle.vlog_parse.proofs.MapLaws.{Maps}
-use Rattle.vlog_parse.proofs.DepthLaws.{any_value, cut_covers}
+use Rattle.vlog_parse.proofs.DepthLaws.{cut_covers}
 
 abbrev pub weight : Bool → ℕ
 weight true = 1
@@ -54,7 +53,7 @@ balanced_token {A} s value no_open no_close = record { counts = counts } where
   counts : (ts : List Lexeme) (x : A) → (term (is s) value).words ts x → opens ts ≡ closes ts
   counts ts x (t, whole, passes, same) =
       along ts (t ∷ []) whole
-        (counts_one (is LeftBrace) t 0 (none_of (is LeftBrace t) (no_open t passes)) ∙ sym (counts_one (is RightBrace) t 0 (none_of (is RightBrace t) (no_close t passes))))
+      (counts_one (is LeftBrace) t 0 (none_of (is LeftBrace t) (no_open t passes)) ∙ sym (counts_one (is RightBrace) t 0 (none_of (is RightBrace t) (no_close t passes))))
 
 balanced_pure : {A : Type 0} (x : A) → Balanced A (pure x)
 balanced_pure {A} x = record { counts = counts } where
@@ -64,9 +63,9 @@ balanced_pure {A} x = record { counts = counts } where
 balanced_parts : (ts a b : List Lexeme) → ts ≡ a ++ b → opens a ≡ closes a → opens b ≡ closes b → opens ts ≡ closes ts
 balanced_parts ts a b whole one two =
     along ts (a ++ b) whole
-      (let o : opens (a ++ b) ≡ opens a + opens b = count-append (is LeftBrace) a b in
-       let c : closes (a ++ b) ≡ closes a + closes b = count-append (is RightBrace) a b in
-       omega (arith, o, c, one, two))
+    (let o : opens (a ++ b) ≡ opens a + opens b = count-append (is LeftBrace) a b in
+    let c : closes (a ++ b) ≡ closes a + closes b = count-append (is RightBrace) a b in
+    omega (arith, o, c, one, two))
 
 balanced_then : {A B : Type 0} (rule : Rule Lexeme A) (next : A → Rule Lexeme B) → Balanced A rule → ((x : A) → Balanced B (next x)) → Balanced B (rule >>= next)
 balanced_then {A} {B} rule next one more = record { counts = counts } where
@@ -117,13 +116,13 @@ operand_balanced : Balanced Expr operand
 operand_balanced =
     balanced_either (is Name) reference constant
     (balanced_then name _ name_balanced
-      (λ n. balanced_either (is LeftBracket) (select_behind n) _
-        (balanced_then (mark LeftBracket) _ open_bracket
-          (λ _. balanced_then number _ number_balanced
-          (λ left. balanced_either (is Colon) (part_behind n left) (bit_behind n left)
-            (balanced_then (mark Colon) _ colon_balanced (λ _. balanced_then number _ number_balanced (λ right. balanced_then (mark RightBracket) _ close_bracket (λ _. balanced_pure _))))
-            (balanced_then (mark RightBracket) _ close_bracket (λ _. balanced_pure _)))))
-        (balanced_pure _)))
+    (λ n. balanced_either (is LeftBracket) (select_behind n) _
+    (balanced_then (mark LeftBracket) _ open_bracket
+    (λ _. balanced_then number _ number_balanced
+    (λ left. balanced_either (is Colon) (part_behind n left) (bit_behind n left)
+    (balanced_then (mark Colon) _ colon_balanced (λ _. balanced_then number _ number_balanced (λ right. balanced_then (mark RightBracket) _ close_bracket (λ _. balanced_pure _))))
+    (balanced_then (mark RightBracket) _ close_bracket (λ _. balanced_pure _)))))
+    (balanced_pure _)))
     constant_balanced
 
 -- an opening brace and a closing one

@@ -1,7 +1,7 @@
 -- Expressions that are cut at a depth.
-use Rattle.std.proofs.Common.{◌≡◌, refl, sym, ◌∙◌, ap, subst, ℕ, zero, suc, ◌+◌, ◌-◌, ◌<◌, ◌≤◌, Bool, true, false, cond, List, [], ◌∷◌, length, arith}
-use Rattle.grammar.specs.Rule.{Outcome, Rule, looks, continue, token, pure, ◌>>=◌}
-use Rattle.grammar.specs.Rule.Outcome.{Took, Stuck}
+use Rattle.std.proofs.Common.{◌≡◌, refl, ◌∙◌, ap, ℕ, zero, suc, ◌+◌, true, false, List, arith}
+use Rattle.grammar.specs.Rule.{Rule, looks, continue}
+use Rattle.grammar.specs.Rule.Outcome.{Took}
 use Rattle.grammar.specs.Outcomes.{cond_yes, cond_not}
 use Rattle.grammar.specs.Good.{Good, sees, anything, or_else}
 use Rattle.grammar.specs.TokenLaws.{pure_good}

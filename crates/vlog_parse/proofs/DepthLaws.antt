@@ -1,16 +1,15 @@
 -- Expressions that are cut at a depth, and those of any depth.
-use Rattle.std.proofs.Common.{◌≡◌, refl, sym, ◌∙◌, ap, subst, ℕ, zero, suc, ◌+◌, ◌<◌, ◌≤◌, Bool, true, false, List, [], ◌∷◌, ◌++◌, length, inl, inr, arith, append_assoc, append-nil}
-use Rattle.grammar.specs.Rule.{Rule, token, pure, ◌>>=◌, either, AreWords, list}
+use Rattle.std.proofs.Common.{refl, sym, ◌∙◌, ap, subst, ℕ, zero, suc, ◌+◌, ◌≤◌, List, [], ◌∷◌, ◌++◌, inl, inr, arith, append-nil}
+use Rattle.grammar.specs.Rule.{AreWords}
 use Rattle.grammar.specs.ListLaws.{separated}
-use Rattle.grammar.specs.NestLaws.{IsPart, list_rises}
 use Rattle.vlog_parse.specs.declared.tree.Expr.{Expr}
 use Rattle.vlog_parse.specs.declared.tree.Expr.TheVariants.{Concat}
 use Rattle.vlog_parse.specs.declared.tree.Tree.{Tree}
-use Rattle.vlog_parse.specs.declared.sort.Sort.TheVariants.{LeftBrace, RightBrace, Comma, Name, Sized}
+use Rattle.vlog_parse.specs.declared.sort.Sort.TheVariants.{Comma}
 use Rattle.vlog_parse.specs.Lexemes.{Lexeme}
-use Rattle.vlog_parse.specs.Expressions.{is, mark, operand, args, concatenation, expr_over, expr_within, expr}
+use Rattle.vlog_parse.specs.Expressions.{is, expr_over, expr_within, expr}
 use Rattle.vlog_parse.specs.Design.{design_over, design}
-use Rattle.vlog_parse.specs.Skipping.{skipped, cut_within, cut}
+use Rattle.vlog_parse.specs.Skipping.{cut_within, cut}
 use Rattle.vlog_parse.proofs.ExpressionLaws.{rises, concatenation_rises}
 use Rattle.vlog_parse.proofs.MapLaws.{Mode, Maps}
 use Rattle.vlog_parse.proofs.MapRules.{maps_over, maps_design}
@@ -24,7 +23,7 @@ any_value = record {
   Meets = λ A x y. Unit {0};
   same = λ A x. tt;
   joins = λ A x y z v w. tt;
-  kept = λ A B f x y v. tt
+  kept = λ A B f x y v. tt;
 }
 
 -- expressions of one depth are of each greater one

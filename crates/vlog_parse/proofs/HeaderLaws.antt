@@ -34,11 +34,12 @@ pub port_carried : (first d : Decl) (parts : List PortPart) (p : PortPart) (dir 
     → ((before : Decl) → before.dir ≡ dir → before.range ≡ range → d ≡ declared_behind before p)
     → new_names ≡ names ++ d.name ∷ [] → new_items ≡ items ++ Net d ∷ []
     → (new_names ≡ map decl_name (first ∷ carried first (parts ++ p ∷ []))) × (new_items ≡ map Net (first ∷ carried first (parts ++ p ∷ [])))
-      × (d.dir ≡ (last_decl first (parts ++ p ∷ [])).dir) × (d.range ≡ (last_decl first (parts ++ p ∷ [])).range)
+    × (d.dir ≡ (last_decl first (parts ++ p ∷ [])).dir) × (d.range ≡ (last_decl first (parts ++ p ∷ [])).range)
 port_carried first d parts p dir range names new_names items new_items before read named netted =
     let is : d ≡ declared_behind (last_decl first parts) p = read (last_decl first parts) (sym before.2) (sym before.3) in
-    let last : d ≡ last_decl first (parts ++ p ∷ []) = is ∙ sym (last_decl-append first parts p) in
-    ( mapped decl_name first d parts p names new_names is before.0 named,
+    let last : d ≡ last_decl first (parts ++ p ∷ []) = is ∙ sym (last_decl-append first parts p) in (
+      mapped decl_name first d parts p names new_names is before.0 named,
       mapped Net first d parts p items new_items is before.1 netted,
       ap (λ e. e.dir) last,
-      ap (λ e. e.range) last )
+      ap (λ e. e.range) last,
+    )

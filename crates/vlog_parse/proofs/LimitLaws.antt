@@ -1,5 +1,5 @@
 -- What a scan for limits says of the tokens.
-use Rattle.std.proofs.Common.{◌≡◌, ◌≢◌, refl, sym, ◌∙◌, ap, subst, ℕ, zero, suc, ◌+◌, ◌-◌, ◌<◌, ◌≤◌, Bool, true, false, ◌&&◌, ◌==◌, cond, nat_lt, List, [], ◌∷◌, ◌++◌, arith, append_assoc, append-nil, Option, Some, None}
+use Rattle.std.proofs.Common.{◌≡◌, refl, sym, ◌∙◌, ap, ℕ, ◌+◌, ◌-◌, ◌<◌, ◌≤◌, Bool, true, false, ◌&&◌, ◌==◌, cond, nat_lt, List, [], ◌∷◌, ◌++◌, arith, append_assoc, append-nil, Option, Some, None}
 use Rattle.std.proofs.lemmas.Bool.Decides.{nat_tests}
 use Rattle.vlog_parse.specs.declared.limits.Excess.{Excess}
 use Rattle.vlog_parse.specs.declared.sort.Sort.TheVariants.{LeftBrace, RightBrace, Number}
@@ -152,7 +152,7 @@ passes_behind before (t ∷ ts) found e = by_token (excess before t) refl (λ he
         rest = p.rest;
         whole = ap (λ us. t ∷ us) p.whole;
         within = (is_none, p.within);
-        passes = ap (λ us. excess us p.token) (sym (append_assoc before (t ∷ []) p.front)) ∙ p.passes
+        passes = ap (λ us. excess us p.token) (sym (append_assoc before (t ∷ []) p.front)) ∙ p.passes;
       }
 
 pub first_passes : (ts : List Lexeme) (found : Excess) → first_excess 0 false ts ≡ Some found → PassesAt [] ts found

@@ -1,8 +1,8 @@
 -- A loop that reads a repetition: what it has and what is left are one reading.
-use Rattle.std.proofs.Common.{◌≡◌, refl, sym, ◌∙◌, ap, ℕ, ◌<◌, ◌≤◌, Bool, true, false, cond, List, [], ◌∷◌, ◌++◌, length, arith, append_assoc, append-nil}
-use Rattle.grammar.specs.Rule.{Outcome, Rule, looks, continue, repeat, token}
+use Rattle.std.proofs.Common.{◌≡◌, refl, sym, ◌∙◌, ap, ◌<◌, ◌≤◌, Bool, true, false, cond, List, [], ◌∷◌, ◌++◌, length, arith, append_assoc, append-nil}
+use Rattle.grammar.specs.Rule.{Outcome, Rule, looks, continue, repeat}
 use Rattle.grammar.specs.Rule.Outcome.{Took, Stuck}
-use Rattle.grammar.specs.Outcomes.{took_rest, not_both_ways}
+use Rattle.grammar.specs.Outcomes.{not_both_ways}
 use Rattle.grammar.specs.RepeatLaws.{Shrinks, with_first, repeat_takes, repeat_stops, repeat_ends}
 use Rattle.grammar.specs.ListLaws.{separated}
 use Rattle.grammar.specs.NestLaws.{Keeps}

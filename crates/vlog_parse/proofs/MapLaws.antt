@@ -69,11 +69,11 @@ maps_repeat m passes rule other one = record { image = images m rule other one }
 pub maps_optional : {A : Type 0} (m : Mode) (passes : Lexeme → Bool) (rule other : Rule Lexeme A) → Maps m A rule other → Maps m (Option A) (optional passes rule) (optional passes other)
 maps_optional {A} m passes rule other one =
     maps_either m passes _ _ (pure None) (pure None)
-      (maps_then m rule other (λ x. pure (Some x)) (λ x. pure (Some x)) one (λ x y meets. maps_pure m (Some x) (Some y) (m.kept A (Option A) Some x y meets)))
-      (maps_same m (pure None))
+    (maps_then m rule other (λ x. pure (Some x)) (λ x. pure (Some x)) one (λ x y meets. maps_pure m (Some x) (Some y) (m.kept A (Option A) Some x y meets)))
+    (maps_same m (pure None))
 
 pub maps_list : {A : Type 0} (m : Mode) (separates : Lexeme → Bool) (rule other : Rule Lexeme A) → Maps m A rule other → Maps m (List A) (list separates rule) (list separates other)
 maps_list {A} m separates rule other one =
     maps_then m rule other _ _ one
-      (λ x y meets. maps_then m _ _ (λ xs. pure (x ∷ xs)) (λ ys. pure (y ∷ ys)) (maps_repeat m separates (separated separates rule) (separated separates other) (maps_behind m (token separates) (λ _. rule) (λ _. other) (λ _. one)))
-        (λ xs ys others. maps_pure m (x ∷ xs) (y ∷ ys) (m.joins (List A) (x ∷ xs) (y ∷ xs) (y ∷ ys) (m.kept A (List A) (λ z. z ∷ xs) x y meets) (m.kept (List A) (List A) (λ zs. y ∷ zs) xs ys others))))
+    (λ x y meets. maps_then m _ _ (λ xs. pure (x ∷ xs)) (λ ys. pure (y ∷ ys)) (maps_repeat m separates (separated separates rule) (separated separates other) (maps_behind m (token separates) (λ _. rule) (λ _. other) (λ _. one)))
+    (λ xs ys others. maps_pure m (x ∷ xs) (y ∷ ys) (m.joins (List A) (x ∷ xs) (y ∷ xs) (y ∷ ys) (m.kept A (List A) (λ z. z ∷ xs) x y meets) (m.kept (List A) (List A) (λ zs. y ∷ zs) xs ys others))))

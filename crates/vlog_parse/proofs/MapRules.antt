@@ -1,19 +1,17 @@
 -- The rules of the grammar over two rules of expressions, of which the words of one are words of the other.
-use Rattle.std.proofs.Common.{List, [], map, Option, Some, None, ℕ}
-use Rattle.grammar.specs.Rule.{Rule, pure, end, ◌>>=◌, repeat, list}
+use Rattle.std.proofs.Common.{List, [], map, Option, ℕ}
+use Rattle.grammar.specs.Rule.{Rule, pure, end, repeat, list}
 use Rattle.vlog_parse.specs.declared.tree.Conns.{Conns}
 use Rattle.vlog_parse.specs.declared.tree.Conns.TheVariants.{ByName, ByPlace}
 use Rattle.vlog_parse.specs.declared.tree.Expr.{Expr}
 use Rattle.vlog_parse.specs.declared.tree.Expr.TheVariants.{Concat}
-use Rattle.vlog_parse.specs.declared.tree.GateKind.{GateKind}
 use Rattle.vlog_parse.specs.declared.tree.Item.{Item}
 use Rattle.vlog_parse.specs.declared.tree.Item.TheVariants.{Assign as Assigned}
 use Rattle.vlog_parse.specs.declared.tree.Module.{Module}
 use Rattle.vlog_parse.specs.declared.tree.Tree.{Tree}
 use Rattle.vlog_parse.specs.declared.parts.Linked.{Linked}
-use Rattle.vlog_parse.specs.declared.parts.Named.{Named}
 use Rattle.vlog_parse.specs.declared.parts.Terminals.{Terminals}
-use Rattle.vlog_parse.specs.declared.sort.Sort.TheVariants.{Name, Module as ModuleWord, EndModule, Wire, Assign, LeftParenthesis, RightParenthesis, LeftBrace, RightBrace, Comma, Semicolon, Dot, Equals}
+use Rattle.vlog_parse.specs.declared.sort.Sort.TheVariants.{Module as ModuleWord, EndModule, Wire, Assign, LeftParenthesis, RightParenthesis, LeftBrace, RightBrace, Comma, Semicolon, Dot, Equals}
 use Rattle.vlog_parse.specs.Sorts.{is_direction, is_gate, begins_item, begins_expr}
 use Rattle.vlog_parse.specs.Lexemes.{Lexeme}
 use Rattle.vlog_parse.specs.Expressions.{is, mark, name, operand, args, concatenation, expr_over}
@@ -40,7 +38,7 @@ module _ (m : Mode) (e e' : Rule Lexeme Expr) (one : Maps m Expr e e') where
       (λ x y v. maps_behind m (mark Equals) _ _
       (λ _. maps_then m e e' _ _ one
       (λ a b w. maps_pure m (Assigned x a) (Assigned y b)
-        (m.joins Item (Assigned x a) (Assigned y a) (Assigned y b) (m.kept Expr Item (λ z. Assigned z a) x y v) (m.kept Expr Item (λ z. Assigned y z) a b w)))))
+      (m.joins Item (Assigned x a) (Assigned y a) (Assigned y b) (m.kept Expr Item (λ z. Assigned z a) x y v) (m.kept Expr Item (λ z. Assigned y z) a b w)))))
 
   all_assigns : Maps m (List Item) (assign_items e) (assign_items e')
   all_assigns =
@@ -76,10 +74,10 @@ module _ (m : Mode) (e e' : Rule Lexeme Expr) (one : Maps m Expr e e') where
   all_conns =
       maps_either m (is Dot) (conns_by_name e) (conns_by_name e') _ _
       (maps_then m (list (is Comma) (conn e)) (list (is Comma) (conn e')) _ _ (maps_list m (is Comma) (conn e) (conn e') all_conn)
-        (λ x y v. maps_pure m (ByName x) (ByName y) (m.kept (List (List ℕ × Option Expr)) Conns ByName x y v)))
+      (λ x y v. maps_pure m (ByName x) (ByName y) (m.kept (List (List ℕ × Option Expr)) Conns ByName x y v)))
       (maps_either m (of_sort begins_expr) (conns_by_place e) (conns_by_place e') (pure (ByName [])) (pure (ByName []))
-        (maps_then m (args e) (args e') _ _ all_args (λ x y v. maps_pure m (ByPlace x) (ByPlace y) (m.kept (List Expr) Conns ByPlace x y v)))
-        (maps_same m (pure (ByName []))))
+      (maps_then m (args e) (args e') _ _ all_args (λ x y v. maps_pure m (ByPlace x) (ByPlace y) (m.kept (List Expr) Conns ByPlace x y v)))
+      (maps_same m (pure (ByName []))))
 
   all_linked : Maps m Linked (linked e) (linked e')
   all_linked =
@@ -88,7 +86,7 @@ module _ (m : Mode) (e e' : Rule Lexeme Expr) (one : Maps m Expr e e') where
       (λ _. maps_then m (conns e) (conns e') _ _ all_conns
       (λ x y v. maps_behind m (mark RightParenthesis) _ _
       (λ _. maps_pure m (record { name = n.name; place = n.place; conns = x }) (record { name = n.name; place = n.place; conns = y })
-        (m.kept Conns Linked (λ z. record { name = n.name; place = n.place; conns = z }) x y v)))))
+      (m.kept Conns Linked (λ z. record { name = n.name; place = n.place; conns = z }) x y v)))))
 
   all_insts : Maps m (List Item) (inst_items e) (inst_items e')
   all_insts =

@@ -1,6 +1,6 @@
 -- Where few braces are open, nothing is cut: the tree is that of the text.
-use Rattle.std.proofs.Common.{◌≡◌, refl, sym, ◌∙◌, ap, subst, ℕ, zero, suc, ◌+◌, ◌-◌, ◌<◌, ◌≤◌, Bool, true, false, ◌&&◌, ◌==◌, cond, List, [], ◌∷◌, ◌++◌, inl, inr, arith, append_assoc, append-nil, Option, Some, None}
-use Rattle.grammar.specs.Rule.{Rule, AreWords}
+use Rattle.std.proofs.Common.{◌≡◌, refl, sym, ◌∙◌, ap, subst, ℕ, zero, suc, ◌+◌, ◌≤◌, List, [], ◌∷◌, ◌++◌, inl, inr, arith, append_assoc}
+use Rattle.grammar.specs.Rule.{AreWords}
 use Rattle.grammar.specs.ListLaws.{separated}
 use Rattle.vlog_parse.specs.declared.tree.Expr.{Expr}
 use Rattle.vlog_parse.specs.declared.tree.Tree.{Tree}
@@ -81,7 +81,7 @@ nested = record {
   Meets = λ A x y. x ≡ y;
   same = λ A x. refl;
   joins = λ A x y z v w. v ∙ w;
-  kept = λ A B f x y v. ap f v
+  kept = λ A B f x y v. ap f v;
 }
 
 cut_same : Maps nested Expr (cut_within 32) expr

@@ -1,14 +1,13 @@
 -- From what the parser reads to what the text is.
-use Rattle.std.proofs.Common.{◌≡◌, refl, sym, ◌∙◌, ap, subst, ℕ, suc, ◌<◌, ◌≤◌, ◌+◌, Bool, true, false, cond, List, [], ◌∷◌, ◌++◌, length, arith, Option, Some, None, Result, Ok, Err, All, slice_index_or, find}
+use Rattle.std.proofs.Common.{◌≡◌, refl, sym, ◌∙◌, ap, subst, ℕ, suc, ◌≤◌, Bool, true, false, cond, List, [], ◌∷◌, ◌++◌, length, arith, Option, Some, None, Err, All, find}
 use Rattle.std.specs.Option.{option_map}
-use Rattle.grammar.specs.Rule.{Outcome, Rule, first, continue, read_end, repeat}
+use Rattle.grammar.specs.Rule.{Rule, first, continue, read_end, repeat}
 use Rattle.grammar.specs.Rule.Outcome.{Took, Stuck}
 use Rattle.grammar.specs.Good.{IsRefusedAt}
 use Rattle.grammar.specs.Outcomes.{continued, took_rest, not_both_ways}
 use Rattle.grammar.specs.ListLaws.{stands_for, refused}
 use Rattle.vlog_lex.specs.declared.token.Token.{Token}
-use Rattle.vlog_lex.specs.declared.token.NetFault.{NetFault}
-use Rattle.vlog_lex.specs.Cutting.{Cuts, IsReading, too_long, cut as cut_into, IsWithin, settled, place_behind}
+use Rattle.vlog_lex.specs.Cutting.{IsReading, too_long, cut as cut_into, IsWithin, settled, place_behind}
 use Rattle.vlog_lex.proofs.TokenLaws.{tokens_within}
 use Rattle.vlog_parse.specs.declared.limits.Excess.{Excess}
 use Rattle.vlog_parse.specs.declared.stop.Stop.{Stop}
@@ -24,7 +23,7 @@ use Rattle.vlog_parse.specs.Items.{place_of}
 use Rattle.vlog_parse.specs.Expressions.{is}
 use Rattle.vlog_parse.specs.Design.{module_over, design_over, design, IsDesign}
 use Rattle.vlog_parse.specs.Skipping.{cut}
-use Rattle.vlog_parse.specs.Limits.{excess, IsWithinLimits, first_excess}
+use Rattle.vlog_parse.specs.Limits.{IsWithinLimits, first_excess}
 use Rattle.vlog_parse.specs.Parsing.{is_outside, construct_name, place_of_rest, HasNoOutside, IsConstructFault, IsSyntaxFault, IsLimitFault, IsReadAs}
 use Rattle.vlog_parse.proofs.DesignLaws.{design_over_good}
 use Rattle.vlog_parse.proofs.PartLaws.{good_cut}
@@ -71,14 +70,17 @@ gives_stuck rule ts after stop gives is = let P : Stop → Type 0 = λ s. Gives 
 pub refused_there : (ts rest : List Lexeme) → (design_over cut).read ts ≡ Stuck rest → (front : List Lexeme) × (ts ≡ front ++ rest) × IsRefusedAt Lexeme Tree design.words front rest
 refused_there ts rest e =
     let (front, whole, r) = refused (design_over cut) (design_over_good cut good_cut) refl ts rest e in
-    let (other, begins) = cut_is_design (front ++ r.more) r.value r.begins in
-    (front, whole, record {
-      more = r.more;
-      value = other;
-      begins = begins;
-      refused = λ t after us x is_rest w. let (y, v) = design_is_cut (front ++ t ∷ us) x w in r.refused t after us y is_rest v;
-      no_word = λ x w. let (y, v) = design_is_cut (front ++ rest) x w in r.no_word y v
-    })
+    let (other, begins) = cut_is_design (front ++ r.more) r.value r.begins in (
+      front,
+      whole,
+      record {
+        more = r.more;
+        value = other;
+        begins = begins;
+        refused = λ t after us x is_rest w. let (y, v) = design_is_cut (front ++ t ∷ us) x w in r.refused t after us y is_rest v;
+        no_word = λ x w. let (y, v) = design_is_cut (front ++ rest) x w in r.no_word y v;
+      },
+    )
 
 pub tree_of : (text : List ℕ) (tokens : List Token) (tree : Tree) → (design_over cut).words (lexemes text tokens) tree → IsWithinLimits [] (lexemes text tokens) → IsDesign text tokens tree
 tree_of text tokens tree w within = cut_whole (lexemes text tokens) tree (nests (lexemes text tokens) within) w

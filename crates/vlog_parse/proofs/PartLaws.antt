@@ -1,5 +1,5 @@
 -- What the parts of lists leave when they are read.
-use Rattle.std.proofs.Common.{◌≡◌, refl, subst, ℕ, ◌<◌, ◌≤◌, Bool, List, length, arith, Result}
+use Rattle.std.proofs.Common.{◌≡◌, refl, subst, ◌<◌, Bool, List, length, arith, Result}
 use Rattle.grammar.specs.Rule.{Outcome, Rule, list, repeat}
 use Rattle.grammar.specs.Good.{Good}
 use Rattle.grammar.specs.RepeatLaws.{Shrinks, shrinks_by}
@@ -27,13 +27,13 @@ pub gives_list : {A : Type 0} (separates : Lexeme → Bool) (rule : Rule Lexeme 
     → Gives (list_reader separates rule.read ts) r after → Gives ((list separates rule).read ts) r after
 gives_list separates rule ts after r keeps gives =
     same_gives (list_reader separates rule.read ts) ((list separates rule).read ts) r after
-      (list_same (length ts) separates (rule_of rule.read) rule (λ us less. refl) keeps ts (omega arith)) gives
+    (list_same (length ts) separates (rule_of rule.read) rule (λ us less. refl) keeps ts (omega arith)) gives
 
 pub gives_repeat : {A : Type 0} (passes : Lexeme → Bool) (rule : Rule Lexeme A) (ts after : List Lexeme) (r : Result (List A) Stop) → Keeps rule
     → Gives (repeat_reader passes rule.read ts) r after → Gives ((repeat passes rule).read ts) r after
 gives_repeat passes rule ts after r keeps gives =
     same_gives (repeat_reader passes rule.read ts) ((repeat passes rule).read ts) r after
-      (times_same (length ts) (length ts) passes (rule_of rule.read) rule (λ us less. refl) keeps ts (omega arith)) gives
+    (times_same (length ts) (length ts) passes (rule_of rule.read) rule (λ us less. refl) keeps ts (omega arith)) gives
 
 pub shrinks_keeps : {A : Type 0} (rule : Rule Lexeme A) → Shrinks rule → Keeps rule
 shrinks_keeps rule shrinks ts rest x e = let less : length rest < length ts = shrinks ts rest x e in omega (arith, less)

@@ -1,17 +1,17 @@
 -- An expression of any depth is read token by token, with a count of its open braces.
 use Rattle.std.proofs.Common.{◌≡◌, refl, sym, ◌∙◌, ap, ℕ, zero, suc, ◌+◌, ◌-◌, ◌<◌, ◌≤◌, Bool, true, false, cond, List, [], ◌∷◌, length, arith}
-use Rattle.grammar.specs.Rule.{Outcome, Rule, looks, continue, token, pure, ◌>>=◌, repeat, list}
+use Rattle.grammar.specs.Rule.{Outcome, looks, continue, repeat}
 use Rattle.grammar.specs.Rule.Outcome.{Took, Stuck}
 use Rattle.grammar.specs.Outcomes.{cond_yes, cond_not, took_rest, not_both_ways, no_end}
 use Rattle.grammar.specs.RepeatLaws.{Shrinks, shrinks_by, with_first, repeat_unrolls, repeat_ends}
 use Rattle.grammar.specs.ListLaws.{separated}
-use Rattle.grammar.specs.NestLaws.{Keeps, SameTo, good_keeps}
+use Rattle.grammar.specs.NestLaws.{Keeps, good_keeps}
 use Rattle.vlog_parse.specs.declared.tree.Expr.{Expr}
 use Rattle.vlog_parse.specs.declared.tree.Expr.TheVariants.{Concat}
 use Rattle.vlog_parse.specs.declared.sort.Sort.TheVariants.{LeftBrace, RightBrace, Comma}
 use Rattle.vlog_parse.specs.Lexemes.{Lexeme}
 use Rattle.vlog_parse.specs.Expressions.{is, mark, operand, args, concatenation, expr_over, expr_within, expr}
-use Rattle.vlog_parse.specs.Skipping.{skipped, cut_within, closing, wanting, left}
+use Rattle.vlog_parse.specs.Skipping.{skipped, closing, wanting, left}
 use Rattle.vlog_parse.proofs.ExpressionLaws.{operand_good, within_good, expr_good, over_same, args_keep, same_reading}
 use Rattle.grammar.specs.Good.{Excludes, sees}
 use Rattle.vlog_parse.specs.declared.sort.Sort.{Sort}
@@ -23,8 +23,8 @@ pub expr_unrolls : (ts : List Lexeme) → expr.read ts ≡ (expr_over expr).read
 expr_unrolls ts =
     same_reading (length ts) (suc (length ts)) ts (omega arith) (omega arith)
     ∙ over_same (length ts) (expr_within (length ts)) expr
-      (λ us less. same_reading (length ts) (length us) us less (omega arith))
-      (good_keeps (expr_within (length ts)) (within_good (length ts))) (args_keep (length ts)) ts (omega arith)
+    (λ us less. same_reading (length ts) (length us) us less (omega arith))
+    (good_keeps (expr_within (length ts)) (within_good (length ts))) (args_keep (length ts)) ts (omega arith)
 
 pub expr_keeps : Keeps expr
 expr_keeps = good_keeps expr expr_good

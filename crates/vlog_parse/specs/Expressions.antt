@@ -1,5 +1,5 @@
 -- The grammar of names, ranges and expressions (IEEE 1364-2005, 4.3, 5.1.14, 5.2.1).
-use Rattle.std.specs.Prelude.{ℕ, zero, suc, Bool, List, length}
+use Rattle.std.specs.Prelude.{ℕ, zero, suc, Bool, List}
 use Rattle.grammar.specs.Rule.{Rule, term, token, pure, ◌>>=◌, either, list, unbounded}
 use Rattle.vlog_parse.specs.declared.tree.Range.{Range}
 use Rattle.vlog_parse.specs.declared.tree.Expr.{Expr}

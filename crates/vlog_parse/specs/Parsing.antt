@@ -1,5 +1,5 @@
 -- What the tokens of a text are read as: the tree of their design, or the first refusal.
-use Rattle.std.specs.Prelude.{◌≡◌, ℕ, Bool, true, false, ◌==◌, if◌then◌else◌, List, [], ◌∷◌, ◌++◌, Option, Some}
+use Rattle.std.specs.Prelude.{◌≡◌, ℕ, Bool, true, false, ◌==◌, if◌then◌else◌, List, [], ◌∷◌, ◌++◌, Some}
 use Rattle.grammar.specs.Good.{IsRefusedAt}
 use Rattle.ila_base.specs.declared.place.Place.{Place}
 use Rattle.ila_base.specs.declared.refusal.NetRefusal.TheVariants.{Construct, Syntax, Limit}

@@ -34,11 +34,7 @@ fn terminals_of(name: Option<Named>, place: Place, args: Items<Expr>) -> Termina
 }
 
 /// The gates of a kind.
-fn gates(
-    alloc: Global,
-    kind: GateKind,
-    all: Items<Terminals>,
-) -> Result<Items<Item>, NoMemory>
+fn gates(alloc: Global, kind: GateKind, all: Items<Terminals>) -> Result<Items<Item>, NoMemory>
     ensures { IfOk result (λ items. items ≡ map (gate_item kind) all) }
 {
     let mut items = Items::new(alloc);

@@ -31,11 +31,7 @@ fn declared_behind(dir: Option<Dir>, range: Option<Range>, part: PortPart) -> De
 }
 
 /// The ports of an ANSI header (IEEE 1364-2005, 12.3.4).
-fn ansi_header(
-    alloc: Global,
-    first: Decl,
-    more: Items<PortPart>,
-) -> Result<Header, NoMemory>
+fn ansi_header(alloc: Global, first: Decl, more: Items<PortPart>) -> Result<Header, NoMemory>
     ensures { IfOk result (λ header. header ≡ ansi_header (first ∷ carried first more)) }
 {
     let mut dir = first.dir;

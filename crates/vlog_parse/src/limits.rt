@@ -41,11 +41,9 @@ impl Counts {
     /// The counts behind one more token, or the limit that it passes.
     fn behind(self, seen: Seen) -> Result<Counts, Excess>
         requires { self.braces ≤ 32 }
-        ensures {
-            (t : Lexeme) → seen ≡ seen_of t → MatchResult result
+        ensures { (t : Lexeme) → seen ≡ seen_of t → MatchResult result
             (λ counts. (excess_of self.braces self.index t ≡ None) × (counts.braces ≡ open_behind self.braces t) × (counts.index ≡ opens_index t) × (counts.braces ≤ 32))
-            (λ excess. excess_of self.braces self.index t ≡ Some excess)
-        }
+            (λ excess. excess_of self.braces self.index t ≡ Some excess) }
     {
         if seen.sort.is(Sort::LeftBrace) && self.braces == MOST_BRACES {
             return Err(Excess {

@@ -14,7 +14,10 @@ use ila_base::{Items, Name, NoMemory};
 use std::alloc::Global;
 
 /// The same parameters.
-pub fn copied(alloc: Global, params: &Items<(Name, Value)>) -> Result<Items<(Name, Value)>, NoMemory>
+pub fn copied(
+    alloc: Global,
+    params: &Items<(Name, Value)>,
+) -> Result<Items<(Name, Value)>, NoMemory>
     ensures { IfOk result (λ copy. copy ≡ params.now) }
 {
     let mut copy = Items::new(alloc);

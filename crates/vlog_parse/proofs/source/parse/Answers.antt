@@ -16,9 +16,9 @@ new-requires c = reading_within c.args.text.now c.args.tokens.now c.requires
 pub returns-in-Some-clause-refused : goal.returns-in-Some-clause-refused
 returns-in-Some-clause-refused c =
     limit (limit_fault c.args.text.now c.args.tokens.now c.in_ok-tree.tree c.in-Some.excess c.in_ok-check_profile.ensures.ok c.in_ok-tree.ensures.ok
-      (ap (first_excess 0 false) (sym c.new.ensures) ∙ sym c.excess.ensures ∙ c.in-Some.is))
+    (ap (first_excess 0 false) (sym c.new.ensures) ∙ sym c.excess.ensures ∙ c.in-Some.is))
 
 pub returns-in-None-clause-found : goal.returns-in-None-clause-found
 returns-in-None-clause-found c =
     read_as c.args.text.now c.args.tokens.now c.in_ok-tree.tree c.in_ok-check_profile.ensures.ok c.in_ok-tree.ensures.ok
-      (ap (first_excess 0 false) (sym c.new.ensures) ∙ sym c.excess.ensures ∙ c.in-None.is)
+    (ap (first_excess 0 false) (sym c.new.ensures) ∙ sym c.excess.ensures ∙ c.in-None.is)

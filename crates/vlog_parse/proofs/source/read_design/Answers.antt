@@ -12,6 +12,6 @@ returns-in-Ok-clause-ok c =
 pub returns-in-Err-Syntax-clause-err : goal.returns-in-Err-Syntax-clause-err
 returns-in-Err-Syntax-clause-err c =
     syntax_fault c.args.text.now c.args.tokens.now c.design.new.self c.place_or_end.result c.requires.profile
-      (sym (ap (design_over cut).read c.new-parser.ensures)
-        ∙ gives_stuck (design_over cut) c.new-parser.result c.design.new.self c.in-Err-Syntax.field-0 c.in-Err-Syntax.ensures c.in-Err-Syntax.field-0-is)
-      (c.place_or_end.ensures c.design.new.self c.place.ensures)
+    (sym (ap (design_over cut).read c.new-parser.ensures)
+    ∙ gives_stuck (design_over cut) c.new-parser.result c.design.new.self c.in-Err-Syntax.field-0 c.in-Err-Syntax.ensures c.in-Err-Syntax.field-0-is)
+    (c.place_or_end.ensures c.design.new.self c.place.ensures)

@@ -12,4 +12,4 @@ items-smaller c = item_shrinks c.items.self c.item.new.self c.in_ok-more.more c.
 pub items-preserved : goal.items-preserved
 items-preserved c =
     list_taken (of_sort begins_item) (item cut) item_shrinks _ c.items.items c.append.new.items c.items.self c.item.new.self c.in_ok-more.more
-      c.items.invariant (sym c.sees_item.ensures ∙ c.items-test.true) c.in_ok-more.ensures c.in_ok-append.ensures
+    c.items.invariant (sym c.sees_item.ensures ∙ c.items-test.true) c.in_ok-more.ensures c.in_ok-append.ensures
