@@ -20,4 +20,5 @@ mod words;
 
 pub use laws::{one_list, one_reading, refused_for_size};
 pub use lexer::tokens;
+pub use place::place_behind;
 pub use token::{NetFault, NetStop, Token, TokenKind};

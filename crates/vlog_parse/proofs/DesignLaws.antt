@@ -21,7 +21,7 @@ use Rattle.vlog_parse.specs.Sorts.{is_direction, begins_item}
 use Rattle.vlog_parse.specs.Lexemes.{Lexeme}
 use Rattle.vlog_parse.specs.Expressions.{is, name, expr}
 use Rattle.vlog_parse.specs.Items.{of_sort, item}
-use Rattle.vlog_parse.specs.Design.{ansi, next_part, ansi_ports, plain_ports, some_ports, ports_list, header, module_over, design_over, design}
+use Rattle.vlog_parse.specs.Design.{ansi, next_part, ansi_ports, plain_ports, some_ports, ports_list, header, body, module_over, design_over, design}
 use Rattle.vlog_parse.proofs.SortLaws.{sample, excludes}
 use Rattle.vlog_parse.proofs.ExpressionLaws.{no_select, begins_expression, mark_good, name_good, expr_good}
 use Rattle.vlog_parse.proofs.ItemLaws.{direction_good, some_wire_good, some_range_good, begins_any_item, item_good}
@@ -38,7 +38,7 @@ ansi_good =
     (λ range. then_good _ _ name_good (λ n. pure_good _ anything) (λ o e. refl))
     (λ o e. e)) (λ o e. e)) (λ o e. refl)
 
-next_part_good : Good Lexeme PortPart (sees (is Comma)) anything next_part
+pub next_part_good : Good Lexeme PortPart (sees (is Comma)) anything next_part
 next_part_good =
     then_good _ _ (mark_good Comma)
     (λ _. either_good (of_sort is_direction) _ _ (then_good _ _ ansi_good (λ d. pure_good _ anything) (λ o e. refl))
@@ -86,18 +86,23 @@ header_good =
     (excludes (is LeftParenthesis) (sees (is Semicolon)) (λ t. refl) (λ t. refl) refl)
 
 module _ (e : Rule Lexeme Expr) (good : Good Lexeme Expr begins_expression no_select e) where
-  one_item : Good Lexeme (List Item) begins_any_item anything (item e)
+  pub one_item : Good Lexeme (List Item) begins_any_item anything (item e)
   one_item = item_good e good
 
-  module_good : Good Lexeme Module (sees (is ModuleWord)) anything (module_over e)
+  body_good : Good Lexeme (List Item) (or_else begins_any_item (sees (is EndModule))) (sees (is EndModule)) (body e)
+  body_good =
+      then_good _ _
+      (repeat_good (sees (is EndModule)) (of_sort begins_item) (item e) one_item (no_empty (item e) one_item refl) (λ o e. e) (λ o e. refl)
+      (excludes (of_sort begins_item) (sees (is EndModule)) (λ t. refl) (λ t. refl) refl))
+      (λ lists. pure_good _ (sees (is EndModule))) (λ o e. e)
+
+  pub module_good : Good Lexeme Module (sees (is ModuleWord)) anything (module_over e)
   module_good =
       then_good _ _ (mark_good ModuleWord)
       (λ _. then_good _ _ name_good
       (λ n. then_good _ _ header_good
       (λ h. then_good _ _ (mark_good Semicolon)
-      (λ _. then_good _ _
-      (repeat_good (sees (is EndModule)) (of_sort begins_item) (item e) one_item (no_empty (item e) one_item refl) (λ o e. e) (λ o e. refl)
-      (excludes (of_sort begins_item) (sees (is EndModule)) (λ t. refl) (λ t. refl) refl))
+      (λ _. then_good _ _ body_good
       (λ items. then_good _ _ (mark_good EndModule) (λ _. pure_good _ anything) (λ o e. refl))
       (λ o e. e)) (λ o e. refl)) (λ o e. e)) (λ o e. refl)) (λ o e. refl)
 

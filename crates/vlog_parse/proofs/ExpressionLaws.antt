@@ -119,7 +119,7 @@ closed parts = do
 abbrev inside : Rule Lexeme Expr → Rule Lexeme Expr
 inside expr = args expr >>= closed
 
-concatenation_rises : (one other : Rule Lexeme Expr) → IsPart one.words other.words → IsPart (concatenation one).words (concatenation other).words
+pub concatenation_rises : (one other : Rule Lexeme Expr) → IsPart one.words other.words → IsPart (concatenation one).words (concatenation other).words
 concatenation_rises one other part ts e (f, b, u, cut, w, (g, c, parts, cut_b, ws, v)) =
     (f, b, u, cut, w, (g, c, parts, cut_b, list_rises (is Comma) one other part g parts ws, v))
 
@@ -135,24 +135,24 @@ more_rises (suc k) n ts e w =
     let z : suc (k + n) ≡ suc k + n = omega arith in
     subst P z (next_rises (k + n) ts e (more_rises k n ts e w))
 
-rises : (n m : ℕ) → n ≤ m → (ts : List Lexeme) (e : Expr) → (expr_within n).words ts e → (expr_within m).words ts e
+pub rises : (n m : ℕ) → n ≤ m → (ts : List Lexeme) (e : Expr) → (expr_within n).words ts e → (expr_within m).words ts e
 rises n m less ts e w =
     let P : ℕ → Type 0 = λ k. (expr_within k).words ts e in
     let z : (m - n) + n ≡ m = omega (arith, less) in
     subst P z (more_rises (m - n) n ts e w)
 
-over_same : (n : ℕ) (one other : Rule Lexeme Expr) → SameTo n one other → Keeps one → Keeps (args one) → SameTo (suc n) (expr_over one) (expr_over other)
+pub over_same : (n : ℕ) (one other : Rule Lexeme Expr) → SameTo n one other → Keeps one → Keeps (args one) → SameTo (suc n) (expr_over one) (expr_over other)
 over_same n one other alike keeps args_keep ts less =
     ap (λ o. cond (looks (is LeftBrace) ts) o (operand.read ts)) (behind_same n (is LeftBrace) (λ _. tt {0}) (λ _. inside one) (λ _. inside other) (λ _. parts) ts less) where
       parts : SameTo n (inside one) (inside other)
       parts = then_same n (args one) (args other) closed closed (list_same n (is Comma) one other alike keeps) args_keep (λ x us _. refl)
 
-args_keep : (n : ℕ) → Keeps (args (expr_within n))
+pub args_keep : (n : ℕ) → Keeps (args (expr_within n))
 args_keep n = good_keeps (args (expr_within n))
     (args_good (expr_within n) (sees (is RightBrace)) (within_good n) (within (sees (is RightBrace)) no_select (λ t. refl) (λ t. refl) refl refl)
     (excludes (is Comma) (sees (is RightBrace)) (λ t. refl) (λ t. refl) refl))
 
-same_reading : (n m : ℕ) (ts : List Lexeme) → length ts ≤ n → length ts ≤ m → (expr_within n).read ts ≡ (expr_within m).read ts
+pub same_reading : (n m : ℕ) (ts : List Lexeme) → length ts ≤ n → length ts ≤ m → (expr_within n).read ts ≡ (expr_within m).read ts
 same_reading zero zero ts a b = refl
 same_reading zero (suc m) [] a b = refl
 same_reading zero (suc m) (t ∷ ts) a b = absurd (omega (arith, a))

@@ -112,7 +112,7 @@ abbrev pub begins_any_item : Sight Lexeme
 begins_any_item = sees (of_sort begins_item)
 
 module _ (expr : Rule Lexeme Expr) (good : Good Lexeme Expr begins_expression no_select expr) where
-  pair_good : Good Lexeme Item begins_expression no_select (pair expr)
+  pub pair_good : Good Lexeme Item begins_expression no_select (pair expr)
   pair_good =
       then_good _ _ good
       (λ target. then_good _ _ (mark_good Equals)
@@ -134,7 +134,7 @@ module _ (expr : Rule Lexeme Expr) (good : Good Lexeme Expr begins_expression no
   args_to_end = args_good expr (sees (is RightParenthesis)) good (within (sees (is RightParenthesis)) no_select (λ t. refl) (λ t. refl) refl refl)
       (excludes (is Comma) (sees (is RightParenthesis)) (λ t. refl) (λ t. refl) refl)
 
-  terminals_good : Good Lexeme Terminals name_or_parenthesis anything (terminals expr)
+  pub terminals_good : Good Lexeme Terminals name_or_parenthesis anything (terminals expr)
   terminals_good =
       then_good _ _ some_name_good
       (λ n. then_good _ _ (term_good (is LeftParenthesis) place_of (sample LeftParenthesis) refl)
@@ -156,7 +156,7 @@ module _ (expr : Rule Lexeme Expr) (good : Good Lexeme Expr begins_expression no
       (widened (λ o e. e) (within (sees (is RightParenthesis)) no_select (λ t. refl) (λ t. refl) refl refl) good) (λ o e. e)
       (excludes (of_sort begins_expr) (sees (is RightParenthesis)) (λ t. refl) (λ t. refl) refl)
 
-  conn_good : Good Lexeme (List _ × Option Expr) (sees (is Dot)) anything (conn expr)
+  pub conn_good : Good Lexeme (List _ × Option Expr) (sees (is Dot)) anything (conn expr)
   conn_good =
       then_good _ _ (mark_good Dot)
       (λ _. then_good _ _ name_good
@@ -186,7 +186,7 @@ module _ (expr : Rule Lexeme Expr) (good : Good Lexeme Expr begins_expression no
       (λ o e. e)
       (excludes (is Dot) (or_else begins_expression (sees (is RightParenthesis))) (λ t. refl) (λ t. refl) refl)
 
-  linked_good : Good Lexeme Linked (sees (is Name)) anything (linked expr)
+  pub linked_good : Good Lexeme Linked (sees (is Name)) anything (linked expr)
   linked_good =
       then_good _ _ name_good
       (λ n. then_good _ _ (mark_good LeftParenthesis)

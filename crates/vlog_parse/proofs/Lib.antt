@@ -2,3 +2,15 @@ mod SortLaws
 mod ExpressionLaws
 mod ItemLaws
 mod DesignLaws
+mod LoopLaws
+mod HeaderLaws
+mod CutLaws
+mod MapLaws
+mod MapRules
+mod DepthLaws
+mod BraceLaws
+mod NestingLaws
+mod LimitLaws
+mod ParseLaws
+mod PartLaws
+mod SkipLaws

@@ -99,9 +99,15 @@ abbrev pub joined : List (List Item) → List Item
 joined [] = []
 joined (items ∷ more) = items ++ joined more
 
+-- { item }
+abbrev pub body : Rule Lexeme Expr → Rule Lexeme (List Item)
+body expr = do
+  lists ← repeat (of_sort begins_item) (item expr)
+  pure (joined lists)
+
 -- the module of its parts
-abbrev pub module_of : Named → Header → List (List Item) → Module
-module_of n header items = record { name = n.name; place = n.place; ports = header.names; items = header.items ++ joined items }
+abbrev pub module_of : Named → Header → List Item → Module
+module_of n header items = record { name = n.name; place = n.place; ports = header.names; items = header.items ++ items }
 
 -- module = "module" name [ "(" [ ports ] ")" ] ";" { item } "endmodule"
 abbrev pub module_over : Rule Lexeme Expr → Rule Lexeme Module
@@ -110,7 +116,7 @@ module_over expr = do
   n ← name
   header ← header
   _ ← mark Semicolon
-  items ← repeat (of_sort begins_item) (item expr)
+  items ← body expr
   _ ← mark EndModule
   pure (module_of n header items)
 

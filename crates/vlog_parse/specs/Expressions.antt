@@ -1,6 +1,6 @@
 -- The grammar of names, ranges and expressions (IEEE 1364-2005, 4.3, 5.1.14, 5.2.1).
-use Rattle.std.specs.Prelude.{ℕ, zero, suc, Bool, List, length}
-use Rattle.grammar.specs.Rule.{Rule, term, token, pure, ◌>>=◌, either, list}
+use Rattle.std.specs.Prelude.{ℕ, zero, suc, Bool, List}
+use Rattle.grammar.specs.Rule.{Rule, term, token, pure, ◌>>=◌, either, list, unbounded}
 use Rattle.vlog_parse.specs.declared.tree.Range.{Range}
 use Rattle.vlog_parse.specs.declared.tree.Expr.{Expr}
 use Rattle.vlog_parse.specs.declared.tree.Expr.TheVariants.{Whole, Bit, Part, Const, Concat}
@@ -100,9 +100,6 @@ abbrev pub expr_within : ℕ → Rule Lexeme Expr
 expr_within zero = operand
 expr_within (suc n) = expr_over (expr_within n)
 
--- an expression, of any depth. It opens no more braces than it has tokens.
+-- an expression, however deep
 abbrev pub expr : Rule Lexeme Expr
-expr = record {
-  words = λ ts e. (n : ℕ) × (expr_within n).words ts e;
-  read = λ ts. (expr_within (length ts)).read ts;
-}
+expr = unbounded expr_within

@@ -108,20 +108,23 @@ some_name = optional (is Name) name
 
 -- a gate's name and place: those of its name, or the place of its `(`
 abbrev pub terminals_of : Option Named → Place → List Expr → Terminals
-terminals_of None paren args = record { name = None; place = paren; args = args }
-terminals_of (Some n) paren args = record { name = Some n.name; place = n.place; args = args }
+terminals_of None place args = record { name = None; place = place; args = args }
+terminals_of (Some n) place args = record { name = Some n.name; place = n.place; args = args }
 
 abbrev pub place_of : Lexeme → Place
 place_of t = t.place
+
+abbrev pub opened : Rule Lexeme Place
+opened = term (is LeftParenthesis) place_of
 
 -- [ name ] "(" args ")"
 abbrev pub terminals : Rule Lexeme Expr → Rule Lexeme Terminals
 terminals expr = do
   n ← some_name
-  paren ← term (is LeftParenthesis) place_of
+  place ← opened
   args ← args expr
   _ ← mark RightParenthesis
-  pure (terminals_of n paren args)
+  pure (terminals_of n place args)
 
 abbrev pub gate_item : GateKind → Terminals → Item
 gate_item kind t = GateItem (record { kind = kind; name = t.name; place = t.place; args = t.args })

@@ -1,16 +1,30 @@
 -- A token as the grammar sees it.
-use Rattle.std.specs.Prelude.{ℕ, List, map, drop, slice_range, ◌==◌, if◌then◌else◌, codes}
+use Rattle.std.specs.Prelude.{ℕ, List, [], ◌∷◌, map, drop, slice_range, ◌==◌, if◌then◌else◌, codes}
 use Rattle.std.specs.Str.{bytes_eq}
 use Rattle.ila_base.specs.declared.place.Place.{Place}
 use Rattle.ila_base.specs.declared.place.Word.{Word}
 use Rattle.vlog_lex.specs.declared.token.Token.{Token}
+use Rattle.vlog_lex.specs.Cutting.{IsWithin}
 use Rattle.vlog_lex.specs.declared.token.TokenKind.{TokenKind}
 use Rattle.vlog_lex.specs.declared.token.TokenKind.TheVariants.{Ident, Escaped, Number as NumberKind, Sized as SizedKind, Text as TextKind, Mark}
 use Rattle.vlog_lex.specs.declared.token.TokenKind.TheVariants.{Outside as OutsideKind}
 use Rattle.vlog_parse.specs.declared.sort.Sort.{Sort}
 use Rattle.vlog_parse.specs.declared.sort.Sort.TheVariants.{Name, Module, EndModule, Input, Output, Wire, Assign, And, Nand, Or, Nor, Xor, Xnor, Buf, Not, Number, Sized, Text, LeftParenthesis, RightParenthesis, LeftBracket, RightBracket, LeftBrace, RightBrace, Comma, Semicolon, Colon, Dot, Equals, Hash, Outside}
 
--- what an identifier is: a keyword of the profile (IEEE 1364-2005, 3.7.2, annex B), or a name
+-- the keyword of a gate that an identifier is (IEEE 1364-2005, 7.2, 7.3), or a name
+abbrev pub gate_sort : List ℕ → Sort
+gate_sort word =
+    if bytes_eq word (codes "and") then And
+    else (if bytes_eq word (codes "nand") then Nand
+    else (if bytes_eq word (codes "or") then Or
+    else (if bytes_eq word (codes "nor") then Nor
+    else (if bytes_eq word (codes "xor") then Xor
+    else (if bytes_eq word (codes "xnor") then Xnor
+    else (if bytes_eq word (codes "buf") then Buf
+    else (if bytes_eq word (codes "not") then Not
+    else Name)))))))
+
+-- the keyword of the profile that an identifier is (3.7.2, annex B), or a name
 abbrev pub word_sort : List ℕ → Sort
 word_sort word =
     if bytes_eq word (codes "module") then Module
@@ -19,15 +33,7 @@ word_sort word =
     else (if bytes_eq word (codes "output") then Output
     else (if bytes_eq word (codes "wire") then Wire
     else (if bytes_eq word (codes "assign") then Assign
-    else (if bytes_eq word (codes "and") then And
-    else (if bytes_eq word (codes "nand") then Nand
-    else (if bytes_eq word (codes "or") then Or
-    else (if bytes_eq word (codes "nor") then Nor
-    else (if bytes_eq word (codes "xor") then Xor
-    else (if bytes_eq word (codes "xnor") then Xnor
-    else (if bytes_eq word (codes "buf") then Buf
-    else (if bytes_eq word (codes "not") then Not
-    else Name)))))))))))))
+    else gate_sort word)))))
 
 abbrev pub mark_sort : ℕ → Sort
 mark_sort m =
@@ -92,3 +98,8 @@ lexeme text token = record {
 
 abbrev pub lexemes : List ℕ → List Token → List Lexeme
 lexemes text tokens = map (lexeme text) tokens
+
+-- each token is a part of the first n bytes of the text
+abbrev pub AreWithin : ℕ → List Token → Type 0
+AreWithin n [] = Unit {0}
+AreWithin n (token ∷ tokens) = IsWithin n token × AreWithin n tokens

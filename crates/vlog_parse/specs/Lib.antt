@@ -3,3 +3,8 @@ pub mod Lexemes
 pub mod Expressions
 pub mod Items
 pub mod Design
+pub mod Giving
+pub mod Readers
+pub mod Skipping
+pub mod Limits
+pub mod Parsing

@@ -1,5 +1,8 @@
 ghost use Rattle.std.specs.Prelude.{◌≡◌};
-ghost use Rattle.vlog_parse.specs.Sorts.{same};
+ghost use Rattle.vlog_parse.specs.Sorts.{same, is_direction, is_gate, begins_item, begins_expr, is_value};
+ghost use Rattle.vlog_parse.specs.Items.{dir_of, gate_of};
+
+use crate::tree::{Dir, GateKind};
 
 /// What a token is to the grammar.
 #[derive(Clone, Copy, Debug)]
@@ -74,5 +77,76 @@ impl Sort {
         ensures { result ≡ same sort self }
     {
         self as u8 == sort as u8
+    }
+
+    pub fn is_direction(self) -> bool
+        ensures { result ≡ is_direction self }
+    {
+        matches!(self, Sort::Input | Sort::Output)
+    }
+
+    /// The direction that a keyword is. Any other sort counts as `output`.
+    pub fn dir(self) -> Dir
+        ensures { result ≡ dir_of self }
+    {
+        match self {
+            Sort::Input => Dir::Input,
+            _ => Dir::Output,
+        }
+    }
+
+    pub fn is_gate(self) -> bool
+        ensures { result ≡ is_gate self }
+    {
+        matches!(
+            self,
+            Sort::And
+                | Sort::Nand
+                | Sort::Or
+                | Sort::Nor
+                | Sort::Xor
+                | Sort::Xnor
+                | Sort::Buf
+                | Sort::Not
+        )
+    }
+
+    /// The kind of gate that a keyword is. Any other sort counts as `and`.
+    pub fn gate(self) -> GateKind
+        ensures { result ≡ gate_of self }
+    {
+        match self {
+            Sort::Nand => GateKind::Nand,
+            Sort::Or => GateKind::Or,
+            Sort::Nor => GateKind::Nor,
+            Sort::Xor => GateKind::Xor,
+            Sort::Xnor => GateKind::Xnor,
+            Sort::Buf => GateKind::Buf,
+            Sort::Not => GateKind::Not,
+            _ => GateKind::And,
+        }
+    }
+
+    /// Whether an item of a module may begin so.
+    pub fn begins_item(self) -> bool
+        ensures { result ≡ begins_item self }
+    {
+        self.is_direction()
+            || self.is_gate()
+            || matches!(self, Sort::Name | Sort::Wire | Sort::Assign)
+    }
+
+    /// Whether an expression may begin so.
+    pub fn begins_expr(self) -> bool
+        ensures { result ≡ begins_expr self }
+    {
+        matches!(self, Sort::Name | Sort::Sized | Sort::LeftBrace)
+    }
+
+    /// Whether it is the value of a parameter.
+    pub fn is_value(self) -> bool
+        ensures { result ≡ is_value self }
+    {
+        matches!(self, Sort::Number | Sort::Sized | Sort::Text)
     }
 }
