@@ -1,14 +1,13 @@
 -- A reader that has begun: it is right behind the header.
-use Rattle.std.proofs.Common.{◌≡◌, ℕ, Bool, false, List, [], ◌∷◌, map, length, sum, Option, Some, None, refl, sym, subst, ap, ◌∙◌}
-use Rattle.std.specs.Prelude.{replicate}
+use Rattle.std.proofs.Common.{◌≡◌, ℕ, false, List, [], ◌∷◌, length, sum, Option, Some, None, refl, sym, subst, ap, ◌∙◌}
 use Rattle.std.proofs.lemmas.List.{length-replicate}
 use Rattle.ila_base.specs.declared.refusal.StimRefusal.{StimRefusal}
-use Rattle.ila_base.specs.declared.refusal.StimRefusal.TheVariants.{Header, Line, Limit}
+use Rattle.ila_base.specs.declared.refusal.StimRefusal.TheVariants.{Header}
 use Rattle.stim_read.specs.declared.inputs.DataInput.{DataInput}
 use Rattle.stim_read.specs.Stimulus.{names_of, widths_of}
 use Rattle.stim_read.specs.Streams.{TakesLine}
 use Rattle.stim_read.specs.Reading.{Reading, rest, Begins as HasBegun, HasNoHeader}
-use Rattle.ila_top.specs.Rows.{IsAhead, IsAheadIfTold, RefusesIfTold, BeginCause, scalars}
+use Rattle.ila_top.specs.Rows.{IsAheadIfTold, RefusesIfTold, BeginCause, scalars}
 use Rattle.ila_top.specs.declared.status.Status.TheVariants.{Stimulus}
 
 pub names_of-scalars : (names : List (List ℕ)) → names_of (scalars names) ≡ names

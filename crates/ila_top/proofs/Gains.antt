@@ -1,6 +1,6 @@
 -- A sink that gained some bytes, and then more.
 use Rattle.std.proofs.Common.{ℕ, List, [], ◌++◌, take, Option, Result, Ok, Err}
-use Rattle.std.specs.Io.KnownBytes.{Appends, Keeps}
+use Rattle.std.specs.Io.KnownBytes.{Appends}
 use Rattle.std.proofs.KnownBytes.{Appends-trans, Appends-nil}
 use Rattle.ila_base.specs.Faults.{Writes}
 

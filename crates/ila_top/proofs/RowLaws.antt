@@ -1,13 +1,13 @@
 -- How far a text was read, one row further, and why it is refused there.
-use Rattle.std.proofs.Common.{◌≡◌, ℕ, ◌+◌, Bool, List, [], ◌∷◌, ◌++◌, length, sum, Option, Some, None, refl, sym, ◌∙◌, ap, subst, arith, append_assoc, length-append}
+use Rattle.std.proofs.Common.{◌≡◌, ℕ, Bool, List, [], ◌∷◌, ◌++◌, length, sum, Option, Some, None, refl, sym, ◌∙◌, ap, subst, arith, append_assoc, length-append}
 use Rattle.std.specs.Str.Lines.{lines}
 use Rattle.ila_base.specs.declared.refusal.StimRefusal.{StimRefusal}
 use Rattle.ila_base.specs.declared.refusal.StimRefusal.TheVariants.{Header, Line, Limit}
 use Rattle.stim_read.specs.declared.inputs.DataInput.{DataInput}
 use Rattle.stim_read.specs.declared.inputs.Field.{Field}
-use Rattle.stim_read.specs.Stimulus.{AreRows, IsRow, names_of, widths_of, fields_of}
+use Rattle.stim_read.specs.Stimulus.{AreRows, IsRow, widths_of, fields_of}
 use Rattle.stim_read.specs.Reading.{Reading, TakesRow, Refuses, RefusesLine, IsSomeRow}
-use Rattle.ila_top.specs.Rows.{Begins, IsAhead, IsAheadIfTold, RefusesStimulus, RefusesIfTold, IsRunAnswer}
+use Rattle.ila_top.specs.Rows.{Begins, IsAheadIfTold, RefusesStimulus, RefusesIfTold, IsRunAnswer}
 use Rattle.ila_top.specs.declared.status.Status.TheVariants.{Stimulus}
 
 -- one more line for one more row

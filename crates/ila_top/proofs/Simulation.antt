@@ -1,9 +1,8 @@
 -- What stands of the trace where rows were read.
-use Rattle.std.proofs.Common.{◌≡◌, ℕ, List, Option}
-use Rattle.ila_base.specs.declared.refusal.StimRefusal.{StimRefusal}
-use Rattle.ila_base.specs.declared.refusal.StimRefusal.TheVariants.{Header, Line, Limit}
+use Rattle.std.proofs.Common.{ℕ, List, Option}
+use Rattle.ila_base.specs.declared.refusal.StimRefusal.TheVariants.{Header}
 use Rattle.ila_top.specs.declared.status.Status.{Status}
-use Rattle.ila_top.specs.declared.status.Status.TheVariants.{Done, Usage, Netlist, Project, Tsm, Resource, Settings, Stimulus, NoFile, ShelfFault, ReadFault, WriteFault, NoMemory}
+use Rattle.ila_top.specs.declared.status.Status.TheVariants.{Done, Stimulus, ReadFault, WriteFault}
 use Rattle.ila_top.specs.Rows.{IsRunAnswer, SimulationLeaves}
 use Rattle.ila_top.proofs.Gains.{Gains}
 

@@ -1,5 +1,5 @@
 -- What a command answers: for each answer its cause, and what stands after it.
-use Rattle.std.specs.Prelude.{◌≡◌, ℕ, ◌+◌, ◌<◌, ◌≤◌, List, [], ◌∷◌, map, length, codes, ⊤, ◌⊎◌, Option, Some, None, if◌then◌else◌}
+use Rattle.std.specs.Prelude.{◌≡◌, ℕ, ◌+◌, ◌<◌, ◌≤◌, List, [], ◌∷◌, length, codes, ⊤, ◌⊎◌, Option, Some, None, if◌then◌else◌}
 use Rattle.std.specs.Str.{bytes_eq}
 use Rattle.std.specs.Io.KnownBytes.{Keeps, Appends, IsAtEnd}
 use Rattle.ila_base.specs.Faults.{Rose, AppendsFront}
@@ -9,7 +9,6 @@ use Rattle.ila_base.specs.declared.place.Place.{Place}
 use Rattle.ila_base.specs.declared.refusal.LimitKind.TheVariants as limits
 use Rattle.ila_base.specs.declared.refusal.NetRefusal.{NetRefusal}
 use Rattle.ila_base.specs.declared.refusal.NetRefusal.TheVariants as net
-use Rattle.ila_base.specs.declared.refusal.StimRefusal.{StimRefusal}
 use Rattle.ila_base.specs.declared.refusal.StimRefusal.TheVariants as stim
 use Rattle.ila_top.specs.Reading.{StandsForInputs, IsTextFault}
 use Rattle.ila_top.specs.Rows.{RefusesIfTold, scalars}

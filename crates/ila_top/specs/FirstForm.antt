@@ -2,11 +2,10 @@
 use Rattle.std.specs.Prelude.{◌≡◌, ◌≢◌, ℕ, ◌<◌, get_or, Bool, ◌&&◌, not, true, false, List, [], ◌∷◌, length, Option, Some, None, if◌then◌else◌, is_none}
 use Rattle.std.specs.List.{flat_map, list_all}
 use Rattle.std.specs.Str.{bytes_eq}
-use Rattle.vlog_parse.specs.declared.tree.Decl.{Decl}
 use Rattle.vlog_parse.specs.declared.tree.Dir.{Dir}
 use Rattle.vlog_parse.specs.declared.tree.Dir.TheVariants.{Input, Output}
 use Rattle.vlog_parse.specs.declared.tree.Item.{Item}
-use Rattle.vlog_parse.specs.declared.tree.Item.TheVariants.{Net, Assign, Gate, Inst}
+use Rattle.vlog_parse.specs.declared.tree.Item.TheVariants.{Net}
 use Rattle.vlog_parse.specs.declared.tree.Module.{Module}
 use Rattle.vlog_parse.specs.declared.tree.Tree.{Tree}
 

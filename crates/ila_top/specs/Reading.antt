@@ -1,5 +1,5 @@
 -- What the bytes of a netlist's file stand for, and why they are refused.
-use Rattle.std.specs.Prelude.{◌≡◌, ℕ, List, ⊤, Option, Some, None}
+use Rattle.std.specs.Prelude.{◌≡◌, ℕ, List, ⊤, Some, None}
 use Rattle.ila_base.specs.declared.place.Place.{Place}
 use Rattle.ila_base.specs.declared.refusal.NetRefusal.TheVariants as net
 use Rattle.vlog_lex.specs.declared.token.Token.{Token}
@@ -8,7 +8,7 @@ use Rattle.vlog_lex.specs.declared.token.NetStop.{NetStop}
 use Rattle.vlog_lex.specs.declared.token.NetStop.TheVariants as stops
 use Rattle.vlog_lex.specs.Cutting.{IsReading}
 use Rattle.vlog_parse.specs.declared.tree.Tree.{Tree}
-use Rattle.vlog_parse.specs.Design.{IsDesign}
+use Rattle.vlog_parse.specs.Parsing.{IsReadAs, IsRefusal}
 use Rattle.ila_top.specs.FirstForm.{DeclaresInputs}
 use Rattle.ila_top.specs.declared.status.Status.{Status}
 use Rattle.ila_top.specs.declared.status.Status.TheVariants.{Netlist, NoMemory}
@@ -26,7 +26,7 @@ status_of stops.NoMemory = NoMemory
 pub record StandsForTree (text : List ℕ) (tree : Tree) : Type 0 where
   pub tokens : List Token
   pub cut : IsReading text tokens None
-  pub design : IsDesign text tokens tree
+  pub read_as : IsReadAs text tokens tree
 
 -- The text stands for a tree, which declares these data inputs.
 pub record StandsForInputs (text top clock : List ℕ) (inputs : List (List ℕ)) : Type 0 where
@@ -34,11 +34,11 @@ pub record StandsForInputs (text top clock : List ℕ) (inputs : List (List ℕ)
   pub stands_for : StandsForTree text tree
   pub declares : DeclaresInputs tree top clock inputs
 
--- The text is refused for this: it isn't cut into tokens, its tokens stand for no tree or pass a limit, or its tree is not in
--- the form that is simulated.
+-- The text is refused for this: it isn't cut into tokens, its tokens are refused, or its tree is not in the form that is
+-- simulated.
 pub data IsTextFault (text : List ℕ) : NetFault → Type 0 where
   no_tokens : {fault : NetFault} (tokens : List Token) → IsReading text tokens (Some fault) → IsTextFault text fault
-  no_tree : {fault : NetFault} (tokens : List Token) → IsReading text tokens None → ⊤ → IsTextFault text fault
+  no_tree : {fault : NetFault} (tokens : List Token) → IsReading text tokens None → IsRefusal text tokens fault → IsTextFault text fault
   other_form : {fault : NetFault} (tree : Tree) → StandsForTree text tree → fault ≡ record { refusal = net.Syntax; place = at_start } → IsTextFault text fault
 
 -- Why a text is refused, or want of memory.

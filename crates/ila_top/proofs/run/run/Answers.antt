@@ -1,7 +1,6 @@
 use Rattle.stim_read.specs.declared.faults.StimFault.TheVariants as fault
 use Rattle.ila_top.specs.Rows.{RefusesIfTold}
-use Rattle.std.proofs.Common.{inl, inr, ◌≡◌, ℕ, ◌≤◌, List, Option, None, Ok, Err, refl, ap, sym, ◌∙◌, arith}
-use Rattle.stim_read.specs.Reading.{rest}
+use Rattle.std.proofs.Common.{inl, inr, ◌≡◌, Ok, Err, refl, ap, ◌∙◌, arith}
 use Rattle.ila_top.proofs.Gains.{gains_then}
 use Rattle.ila_top.proofs.RowLaws.{step_ahead, refused_ahead, answers_rows, none_some}
 use Rattle.ila_top.proofs.run.run.Goals as goal

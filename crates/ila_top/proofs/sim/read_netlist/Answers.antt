@@ -1,5 +1,3 @@
-use Rattle.std.proofs.Common.{List}
-use Rattle.ila_top.specs.Reading.{StandsForTree}
 use Rattle.ila_top.proofs.Refused.{unread_form}
 use Rattle.ila_top.proofs.sim.read_netlist.Goals as goal
 

@@ -1,4 +1,4 @@
-use Rattle.ila_top.proofs.Gains.{gains_none, gains_then, gains_written}
+use Rattle.ila_top.proofs.Gains.{gains_then, gains_written}
 use Rattle.ila_top.proofs.Simulation.{leaves_run}
 use Rattle.ila_top.proofs.simulate.simulate.Goals as goal
 

@@ -1,4 +1,4 @@
-use Rattle.std.proofs.Common.{◌≡◌, ℕ, List, ap, sym, ◌∙◌, subst}
+use Rattle.std.proofs.Common.{◌≡◌, ap, sym, ◌∙◌, subst}
 use Rattle.stim_read.specs.Stimulus.{AreNames, names_of}
 use Rattle.ila_top.proofs.Begun.{names_of-scalars}
 use Rattle.ila_top.proofs.first.data.scalar_inputs.Goals as goal
