@@ -30,10 +30,10 @@ fn texts(alloc: Global, words: &[&str]) -> Result<Vec<String>, Fail> {
     Ok(texts)
 }
 
-// The shelf of a row: the toggle as `tog.v`.
-fn shelf_of(alloc: Global, fails: &[u32]) -> Result<MemShelf, Fail> {
-    let toggle = Vec::from_slice(alloc, TOGGLE)?;
-    let files = vec![in alloc; (Name::new(alloc, b"tog.v")?, toggle)]?;
+// The shelf of a row: the netlist as `tog.v`.
+fn shelf_of(alloc: Global, netlist: &[u8], fails: &[u32]) -> Result<MemShelf, Fail> {
+    let netlist = Vec::from_slice(alloc, netlist)?;
+    let files = vec![in alloc; (Name::new(alloc, b"tog.v")?, netlist)]?;
     Ok(MemShelf::new(files, Vec::from_slice(alloc, fails)?))
 }
 
@@ -45,9 +45,9 @@ struct Answer {
     errors: MemSink,
 }
 
-fn answer_of(alloc: Global, row: &Row) -> Result<Answer, Fail> {
+fn answer_of(alloc: Global, netlist: &[u8], row: &Row) -> Result<Answer, Fail> {
     let [shelf_fails, read_fails, write_fails] = row.fails;
-    let mut shelf = shelf_of(alloc, shelf_fails)?;
+    let mut shelf = shelf_of(alloc, netlist, shelf_fails)?;
     let bytes = Vec::from_slice(alloc, row.stimulus)?;
     let mut stimulus = MemSource::new(bytes, 4, Vec::from_slice(alloc, read_fails)?);
     let mut trace = MemSink::new(alloc, 64, 1000, Vec::from_slice(alloc, write_fails)?)?;
@@ -71,7 +71,7 @@ fn answer_of(alloc: Global, row: &Row) -> Result<Answer, Fail> {
 
 // Whether a call answers as its row says.
 fn is_right(alloc: Global, row: &Row) -> Result<bool, Fail> {
-    let answer = answer_of(alloc, row)?;
+    let answer = answer_of(alloc, TOGGLE, row)?;
     Ok(
         answer.exit == row.exit
             && answer.trace.bytes() == row.trace
@@ -202,4 +202,61 @@ fn faults_of_shelf_source_and_sink(rt: HostRuntime) -> Result<(), Fail> {
             },
         ],
     )
+}
+
+// A netlist, and the line with which it is refused before the stimulus is begun.
+const REFUSED: &[(&[u8], &[u8])] = &[
+    (
+        b"module m (clk);\n  input clk;\n  always @(posedge clk) ;\nendmodule\n",
+        b"ila: N2 3:3 always\n",
+    ),
+    (b"module m (); `define a\n assign a = ;", b"ila: N2 1:14 define\n"),
+    (b"module m (); c # u (); assign", b"ila: N2 1:16 #\n"),
+    (b"module m (); assign a = 1'bx;", b"ila: N16 1:25\n"),
+    (b"module m ();\n\x0b", b"ila: N1 2:1\n"),
+    (b"module m (clk;", b"ila: N3 1:14\n"),
+    (b"module m ();\n", b"ila: N3 2:1\n"),
+    (
+        b"module m (); assign a[1048576] = b; endmodule",
+        b"ila: N17 Index 1048576\n",
+    ),
+    (
+        b"module m (); assign a[1048575] = b; endmodule",
+        b"ila: N3 1:1\n",
+    ),
+    // 33 braces are one too many, and the syntax comes first.
+    (
+        b"module m (); assign {{{{{{{{{{{{{{{{{{{{{{{{{{{{{{{{{a}}}}}}}}}}}}}}}}}}}}}}}}}}}}}}}}} = b; endmodule",
+        b"ila: N17 Nesting 33\n",
+    ),
+    (
+        b"module m (); assign {{{{{{{{{{{{{{{{{{{{{{{{{{{{{{{{{a}}}}}}}}}}}}}}}}}}}}}}}}}}}}}}}}} = b; endmodul",
+        b"ila: N3 1:102\n",
+    ),
+    (
+        b"module m (); assign {{{{{{{{{{{{{{{{{{{{{{{{{{{{{{{{a}}}}}}}}}}}}}}}}}}}}}}}}}}}}}}}} = b; endmodule",
+        b"ila: N3 1:1\n",
+    ),
+];
+
+// Whether a netlist is refused with the line, nothing being written.
+fn is_refused(alloc: Global, netlist: &[u8], line: &[u8]) -> Result<bool, Fail> {
+    let row = Row {
+        words: SIM,
+        fails: NO_FAILS,
+        stimulus: b"",
+        trace: b"",
+        line: b"",
+        exit: 2,
+    };
+    let answer = answer_of(alloc, netlist, &row)?;
+    Ok(answer.exit == 2 && answer.trace.bytes().is_empty() && answer.errors.bytes() == line)
+}
+
+#[test]
+fn netlists_that_are_refused(rt: HostRuntime) -> Result<(), Fail> {
+    for (netlist, line) in REFUSED {
+        assert!(rt; is_refused(rt.alloc(), netlist, line)?, "at {netlist:?}");
+    }
+    Ok(())
 }

@@ -5,6 +5,7 @@ use vlog_parse::{Conns, Dir, Expr, Gate, Inst, Item, Module, Range, Tree, Value}
 
 /// A tree as the rows write it: a line for each module and each item, with the place of each name and
 /// constant behind an `@`.
+#[derive(Drop)]
 pub struct TreeText {
     alloc: Global,
     text: Vec<u8>,
