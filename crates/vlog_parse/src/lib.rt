@@ -21,6 +21,8 @@ mod skip;
 mod sort;
 mod source;
 mod stop;
+#[cfg(test)]
+mod tests;
 mod tree;
 
 pub use laws::one_tree;
