@@ -12,5 +12,6 @@ mod BraceLaws
 mod NestingLaws
 mod LimitLaws
 mod ParseLaws
+mod RefusalLaws
 mod PartLaws
 mod SkipLaws

@@ -115,7 +115,7 @@ later_none : (o p : Option Excess) → or_later o p ≡ None → (o ≡ None) ×
 later_none None p e = (refl, e)
 later_none (Some x) p e = absurd cc
 
-scan_behind : (before ts : List Lexeme) (t : Lexeme) → first_excess (open_behind (open_braces 0 before) t) (opens_index t) ts ≡ first_excess (open_braces 0 (before ++ t ∷ [])) (index_next false (before ++ t ∷ [])) ts
+pub scan_behind : (before ts : List Lexeme) (t : Lexeme) → first_excess (open_behind (open_braces 0 before) t) (opens_index t) ts ≡ first_excess (open_braces 0 (before ++ t ∷ [])) (index_next false (before ++ t ∷ [])) ts
 scan_behind before ts t = ap (λ k. first_excess k (opens_index t) ts) (sym (open_more before t)) ∙ ap (λ i. first_excess (open_braces 0 (before ++ t ∷ [])) i ts) (sym (index_more before t))
 
 within_behind : (before ts : List Lexeme) → first_excess (open_braces 0 before) (index_next false before) ts ≡ None → IsWithinLimits before ts

@@ -1,9 +1,18 @@
 ghost use Rattle.std.specs.Prelude.{◌≡◌, ℕ, List};
+ghost use Rattle.vlog_lex.specs.declared.token.NetFault.{NetFault as FaultOf};
 ghost use Rattle.vlog_lex.specs.declared.token.Token.{Token as TokenOf};
 ghost use Rattle.vlog_parse.specs.declared.tree.Tree.{Tree as TreeOf};
 ghost use Rattle.vlog_parse.specs.Design.{IsDesign};
+ghost use Rattle.vlog_parse.specs.Parsing.{IsReadAs, IsRefusal};
 
 /// The tokens of a text stand for at most one tree.
 pub fn one_tree()
     ensures { (text : List ℕ) (tokens : List TokenOf) (tree other : TreeOf) → IsDesign text tokens tree → IsDesign text tokens other → tree ≡ other }
+{}
+
+/// The tokens of a text are refused for at most one fault, and for none where they are read as a
+/// tree.
+pub fn one_refusal()
+    ensures one { (text : List ℕ) (tokens : List TokenOf) (fault other : FaultOf) → IsRefusal text tokens fault → IsRefusal text tokens other → fault ≡ other }
+    ensures none { (text : List ℕ) (tokens : List TokenOf) (tree : TreeOf) (fault : FaultOf) → IsReadAs text tokens tree → IsRefusal text tokens fault → ⊥ }
 {}

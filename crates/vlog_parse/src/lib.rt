@@ -21,8 +21,10 @@ mod skip;
 mod sort;
 mod source;
 mod stop;
+#[cfg(test)]
+mod tests;
 mod tree;
 
-pub use laws::one_tree;
+pub use laws::{one_refusal, one_tree};
 pub use source::parse;
 pub use tree::{Conns, Decl, Dir, Expr, Gate, GateKind, Inst, Item, Module, Range, Tree, Value};
