@@ -1,0 +1,4 @@
+pub mod Raw
+pub mod Driven
+pub mod Refusals
+pub mod Tables

@@ -1,0 +1,1 @@
+-- How the tables of a raw netlist are made.
