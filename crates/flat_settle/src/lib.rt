@@ -2,6 +2,8 @@
 //! is a flat netlist, or is refused.
 #![tactic(auto)]
 
+mod owners;
 mod raw;
+mod steps;
 
 pub use raw::{RawCell, Unsettled};

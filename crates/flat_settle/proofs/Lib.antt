@@ -1,0 +1,3 @@
+pub mod AppendLemmas
+pub mod RowLemmas
+pub mod StepLemmas
