@@ -4,10 +4,10 @@ use Rattle.std.proofs.lemmas.Bool.{cases_eq}
 use Rattle.std.proofs.lemmas.Option.{slice_get_within, same_Some, none-some}
 use Rattle.net_core.specs.declared.parts.NetId.{NetId}
 use Rattle.net_core.specs.Netlist.{IsIn}
-use Rattle.net_core.specs.Tables.{IsOn}
+use Rattle.net_core.specs.Tables.{IsOn, IsAmongNets}
 use Rattle.net_core.proofs.ListLemmas.{slice_get_append, slice_get_left, slice_get_right}
-use Rattle.net_core.proofs.MarkLemmas.{Below, OutAt}
-use Rattle.flat_settle.specs.Tables.{Appends}
+use Rattle.net_core.proofs.MarkLemmas.{Below, OutAt, NetAt}
+use Rattle.flat_settle.specs.Tables.{Appends, HasAt, IsSomewhere}
 
 -- what holds where a call went well, said otherwise
 pub on_ok_as : {T E : Type 0} (r : Result T E) (P Q : Type 0) → (P → Q) → OnOk r P → OnOk r Q
@@ -75,3 +75,39 @@ outs_none outs i old now at first =
 pub outs_all : (outs : List (Option NetId)) (old new : List ℕ) (i : ℕ) → length outs ≤ i → Appends old new (Below (OutAt outs) i) → Appends old new (IsOn outs)
 outs_all outs old new i end all =
     appends_all (OutAt outs) (IsOn outs) i old new all (λ n (k, at). (k, omega (arith, slice_get_within outs k (Some (record { 0 = n })) at), at)) (λ n (k, low, at). (k, at))
+
+-- Items of a list
+
+module _ {X : Type 0} (P : ℕ → X → ℕ → Type 0) (xs : List X) where
+  pub items_none : (old : List ℕ) → Appends old old (Below (HasAt P xs) 0)
+  items_none old = appends_none (HasAt P xs) old
+
+  pub items_more : (i : ℕ) (x : X) (Q : ℕ → Type 0) (old now next : List ℕ) → slice_get xs i ≡ Some x → ((n : ℕ) → Q n → P i x n) → ((n : ℕ) → P i x n → Q n)
+      → Appends old now (Below (HasAt P xs) i) → Appends now next Q → Appends old next (Below (HasAt P xs) (i + 1))
+  items_more i x Q old now next at gives takes first added =
+      appends_more (HasAt P xs) Q i old now next first added (λ n q. (x, at, gives n q))
+      (λ n (own, there, p). takes n (subst (λ (o : X). P i o n) (same_Some _ _ (sym there ∙ at)) p))
+
+  pub items_all : (i : ℕ) (old new : List ℕ) → length xs ≤ i → Appends old new (Below (HasAt P xs) i) → Appends old new (IsSomewhere P xs)
+  items_all i old new end all =
+      appends_all (HasAt P xs) (IsSomewhere P xs) i old new all
+      (λ n (k, x, at, p). (k, omega (arith, slice_get_within xs k x at, end), (x, at, p))) (λ n (k, low, own). (k, own.0, own.1, own.2))
+
+pub appends_as : (old new : List ℕ) (P Q : ℕ → Type 0) → ((n : ℕ) → P n → Q n) → ((n : ℕ) → Q n → P n) → Appends old new P → Appends old new Q
+appends_as old new P Q gives takes adds = record {
+  each = λ n. (λ t. elim ((adds.each n).0 t) [ inl o ↦ inl o | inr p ↦ inr (gives n p) ], λ t. elim t [ inl o ↦ (adds.each n).1 (inl o) | inr q ↦ (adds.each n).1 (inr (takes n q)) ]);
+}
+
+pub appends_nothing : (xs : List ℕ) (P : ℕ → Type 0) → ((n : ℕ) → P n → ⊥) → Appends xs xs P
+appends_nothing xs P none = appends_as xs xs (λ _. ⊥) P (λ n b. absurd b) none (appends_same xs)
+
+-- The nets of a list
+
+pub nets_more : (nets : List NetId) (i : ℕ) (net : NetId) (old now : List ℕ) → slice_get nets i ≡ Some net → Appends old now (Below (NetAt nets) i) → Appends old (now ++ net.0 ∷ []) (Below (NetAt nets) (i + 1))
+nets_more nets i net old now at first =
+    appends_more (NetAt nets) (λ n. n ≡ net.0) i old now (now ++ net.0 ∷ []) first (appends_one now net.0)
+    (λ n is. at ∙ ap (λ (m : ℕ). Some (record { 0 = m })) (sym is)) (λ n there. ap (λ (m : NetId). m.0) (same_Some _ _ (sym there ∙ at)))
+
+pub nets_all : (nets : List NetId) (old new : List ℕ) (i : ℕ) → length nets ≤ i → Appends old new (Below (NetAt nets) i) → Appends old new (IsAmongNets nets)
+nets_all nets old new i end all =
+    appends_all (NetAt nets) (IsAmongNets nets) i old new all (λ n (k, at). (k, omega (arith, slice_get_within nets k (record { 0 = n }) at), at)) (λ n (k, low, at). (k, at))

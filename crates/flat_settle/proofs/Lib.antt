@@ -1,3 +1,6 @@
 pub mod AppendLemmas
 pub mod RowLemmas
 pub mod StepLemmas
+pub mod PortLemmas
+pub mod DrivenLemmas
+pub mod MarkedLemmas

@@ -5,7 +5,8 @@ use Rattle.net_core.specs.declared.parts.Cell.{Cell}
 use Rattle.net_core.specs.CellTable.{is_clock_buffer}
 use Rattle.net_core.specs.Netlist.{IsIn, input_bits}
 use Rattle.flat_settle.specs.declared.raw.RawCell.{RawCell}
-use Rattle.flat_settle.specs.Raw.{Raw, RawDrives, RawReads, flat_cell, with_cells}
+use Rattle.flat_settle.specs.declared.raw.Raw.{Raw}
+use Rattle.flat_settle.specs.Raw.{RawDrives, RawReads, flat_cell, with_cells}
 
 -- the cell reads a constant
 pub data ReadsConstant (cell : RawCell) : Type 0 where

@@ -14,12 +14,7 @@ use Rattle.net_core.specs.CellTable.{IsPinCount, input_widths, output_widths, Is
 use Rattle.net_core.specs.Netlist.{Parts, port_nets, all_nets, net_count}
 use Rattle.net_core.specs.WellFormed.{Each, HasRange, AreWhole, IsIdentifier}
 use Rattle.flat_settle.specs.declared.raw.RawCell.{RawCell}
-
-pub record Raw : Type 0 where
-  pub groups : List Group
-  pub cells : List RawCell
-  pub ports : List Port
-  pub clock : NetId
+use Rattle.flat_settle.specs.declared.raw.Raw.{Raw}
 
 -- the net on a clock pin
 abbrev pub clock_net : Option Pin → Option NetId

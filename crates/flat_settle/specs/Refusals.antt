@@ -9,9 +9,10 @@ use Rattle.net_core.specs.CellTable.{is_clock_buffer}
 use Rattle.net_core.specs.Netlist.{Parts, Drives, Reads, HasDriver, IsIn, input_bits, output_bits}
 use Rattle.net_core.specs.WellFormed.{bit_names, net_names}
 use Rattle.flat_settle.specs.declared.raw.RawCell.{RawCell}
+use Rattle.flat_settle.specs.declared.raw.Raw.{Raw}
 use Rattle.flat_settle.specs.declared.raw.Unsettled.{Unsettled}
 use Rattle.flat_settle.specs.declared.raw.Unsettled.TheVariants as faults
-use Rattle.flat_settle.specs.Raw.{Raw, with_cells}
+use Rattle.flat_settle.specs.Raw.{with_cells}
 use Rattle.flat_settle.specs.Driven.{IsDriven, IsClocked, Leaves}
 
 -- Names

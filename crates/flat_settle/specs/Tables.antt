@@ -12,7 +12,7 @@ use Rattle.net_core.specs.Netlist.{Drives, Reads, HasDriver, IsIn, port_nets}
 use Rattle.net_core.specs.Tables.{IsOn}
 use Rattle.flat_settle.specs.declared.raw.RawCell.{RawCell}
 use Rattle.flat_settle.specs.declared.owners.Output.{Output}
-use Rattle.flat_settle.specs.Raw.{Raw, RawDrives, RawReads}
+use Rattle.flat_settle.specs.Raw.{RawDrives, RawReads}
 use Rattle.flat_settle.specs.Driven.{ReadsConstant}
 
 -- the mark of a net
@@ -57,28 +57,27 @@ pub data Spreads (clock : Bool) (cells : List RawCell) (ends : List ℕ) : ℕ �
   itself : (n : ℕ) → IsIn ends n → Spreads clock cells ends n
   along : (m n : ℕ) → IsStep clock cells m n → Spreads clock cells ends m → Spreads clock cells ends n
 
+-- Items of a list that have a number
+
+-- the item at a place has the number n
+abbrev pub HasAt : {X : Type 0} → (ℕ → X → ℕ → Type 0) → List X → ℕ → ℕ → Type 0
+HasAt {X} P xs k n = (x : X) × (slice_get xs k ≡ Some x) × P k x n
+
+abbrev pub IsSomewhere : {X : Type 0} → (ℕ → X → ℕ → Type 0) → List X → ℕ → Type 0
+IsSomewhere {X} P xs n = (k : ℕ) × (x : X) × (slice_get xs k ≡ Some x) × P k x n
+
 -- A seed of the driven bits is on an output pin of a cell other than a link, or of a link with a constant
 
 pub data IsSeedCell (cell : RawCell) : Type 0 where
   no_link : cell.link ≡ false → IsSeedCell cell
   constant : cell.link ≡ true → ReadsConstant cell → IsSeedCell cell
 
-pub record IsSeed (cells : List RawCell) (n : ℕ) : Type 0 where
-  pub c : ℕ
-  pub cell : RawCell
-  pub at : slice_get cells c ≡ Some cell
-  pub seed : IsSeedCell cell
-  pub on : IsOn cell.outs n
+abbrev pub SeedHas : ℕ → RawCell → ℕ → Type 0
+SeedHas c cell n = IsSeedCell cell × IsOn cell.outs n
 
 -- a bit of a port on this side
-abbrev pub IsPortBit : List Group → Bool → Port → ℕ → Type 0
-IsPortBit groups output port n = (port.output ≡ output) × IsIn (port_nets groups port) n
-
-pub record IsBitOf (groups : List Group) (ports : List Port) (output : Bool) (n : ℕ) : Type 0 where
-  pub place : ℕ
-  pub port : Port
-  pub at : slice_get ports place ≡ Some port
-  pub own : IsPortBit groups output port n
+abbrev pub PortHas : List Group → Bool → ℕ → Port → ℕ → Type 0
+PortHas groups output p port n = (port.output ≡ output) × IsIn (port_nets groups port) n
 
 -- whether a link or other cell stays, by the table of driven bits
 abbrev pub pin_stays : List Bool → Option Pin → Bool
@@ -90,20 +89,20 @@ stays driven cell = if cell.link then pin_stays driven (slice_get cell.ins 0) el
 
 -- Reads
 
--- an input pin of these is on net n
-abbrev pub IsAmongPins : List Pin → ℕ → Type 0
-IsAmongPins ins n = (i : ℕ) × (slice_get ins i ≡ Some (pins.Net (record { 0 = n })))
+-- the pin is on net n
+abbrev pub PinHas : ℕ → Pin → ℕ → Type 0
+PinHas i pin n = pin ≡ pins.Net (record { 0 = n })
 
 -- whether the reads of a cell count: all do, or those of cells other than clock buffers
 abbrev pub counts : Bool → CellKind → Bool
 counts all kind = all || not (is_clock_buffer kind)
 
-pub record IsReadBy (all : Bool) (cells : List Cell) (n : ℕ) : Type 0 where
-  pub c : ℕ
-  pub cell : Cell
-  pub at : slice_get cells c ≡ Some cell
-  pub counted : counts all cell.kind ≡ true
-  pub among : IsAmongPins cell.ins n
+abbrev pub ReadHas : Bool → ℕ → Cell → ℕ → Type 0
+ReadHas all c cell n = (counts all cell.kind ≡ true) × IsSomewhere PinHas cell.ins n
+
+-- the clock pin is on net n
+abbrev pub ClockHas : ℕ → Cell → ℕ → Type 0
+ClockHas c cell n = cell.clock ≡ Some (record { 0 = n })
 
 -- Owners: for each net an output pin that drives it
 
@@ -128,16 +127,11 @@ pub record AreOwners (cells : List Cell) (bound : ℕ) (table : List (Option Out
   pub complete : (c : ℕ) (cell : Cell) (k n : ℕ) → c < bound → Drives cells c cell k n → (own : Output) × HasOutput table n own
 
 -- output pin k of cell c is on net n, which is an input or has another pin in the table
-pub record IsSharedPin (table : List (Option Output)) (inputs : List Bool) (outs : List (Option NetId)) (c n : ℕ) : Type 0 where
-  pub k : ℕ
-  pub on : IsOutOn outs k n
-  pub other : (is_marked inputs n ≡ true) ⊎ (¬ HasOutput table n (record { cell = c; pin = k }))
+abbrev pub SharedPinHas : List (Option Output) → List Bool → ℕ → ℕ → Option NetId → ℕ → Type 0
+SharedPinHas table inputs c k out n = (out ≡ Some (record { 0 = n })) × ((is_marked inputs n ≡ true) ⊎ (¬ HasOutput table n (record { cell = c; pin = k })))
 
-pub record IsSharedNet (table : List (Option Output)) (inputs : List Bool) (cells : List Cell) (n : ℕ) : Type 0 where
-  pub c : ℕ
-  pub cell : Cell
-  pub at : slice_get cells c ≡ Some cell
-  pub shared : IsSharedPin table inputs cell.outs c n
+abbrev pub SharedHas : List (Option Output) → List Bool → ℕ → Cell → ℕ → Type 0
+SharedHas table inputs c cell n = IsSomewhere (SharedPinHas table inputs c) cell.outs n
 
 -- the first number with a mark in the one list and this mark in the other
 pub record IsFirstWith (marks others : List Bool) (want : Bool) (n : ℕ) : Type 0 where

@@ -2,8 +2,12 @@
 //! is a flat netlist, or is refused.
 #![tactic(auto)]
 
+mod driven;
+mod keep;
+mod marks;
 mod owners;
+mod pushes;
 mod raw;
 mod steps;
 
-pub use raw::{RawCell, Unsettled};
+pub use raw::{Raw, RawCell, Unsettled};

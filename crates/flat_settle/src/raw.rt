@@ -1,7 +1,7 @@
 //! Raw cells, and why raw parts can't be settled.
 
 use ila_base::{Items, Name, NoMemory};
-use net_core::{CellKind, NetId, Pin};
+use net_core::{CellKind, Group, NetId, Pin, Port};
 
 /// A cell before the links are settled. `ins` and `outs` have the pins in the order that `CellKind`
 /// tells.
@@ -18,6 +18,16 @@ pub struct RawCell {
     pub outs: Items<Option<NetId>>,
     /// What the C pin of a register or memory is on.
     pub clock: Option<Pin>,
+}
+
+/// What unfolding a hierarchy gives: the groups, ports and cells, with every link as a cell, and the
+/// clock port's bit.
+#[derive(Debug, Drop)]
+pub struct Raw {
+    pub groups: Items<Group>,
+    pub cells: Items<RawCell>,
+    pub ports: Items<Port>,
+    pub clock: NetId,
 }
 
 /// Why raw parts can't be settled, with a flat identifier or the name of a net bit, each time the first
