@@ -4,3 +4,5 @@ pub mod StepLemmas
 pub mod PortLemmas
 pub mod DrivenLemmas
 pub mod MarkedLemmas
+pub mod KeepLemmas
+pub mod OwnerLemmas

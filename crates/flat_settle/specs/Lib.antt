@@ -2,3 +2,4 @@ pub mod Raw
 pub mod Driven
 pub mod Refusals
 pub mod Tables
+pub mod Judged

@@ -1,7 +1,8 @@
 -- Why a netlist can't be settled, and what it is when settled.
-use Rattle.std.specs.Prelude.{◌≡◌, ℕ, ◌<◌, true, false, List, [], ◌∷◌, ◌++◌, map, filter_map, flat_map, slice_get, Option, Some, None, MatchOption, ⊤, ◌⊎◌, codes}
+use Rattle.std.specs.Prelude.{◌≡◌, ℕ, ◌<◌, Bool, true, false, List, [], ◌∷◌, ◌++◌, map, filter_map, flat_map, slice_get, Option, Some, None, MatchOption, ⊤, ◌⊎◌, codes}
 use Rattle.std.specs.Option.{option_map}
 use Rattle.net_core.specs.declared.parts.NetId.{NetId}
+use Rattle.net_core.specs.declared.parts.Pin.{Pin}
 use Rattle.net_core.specs.declared.parts.Pin.TheVariants as pins
 use Rattle.net_core.specs.declared.parts.Cell.{Cell}
 use Rattle.net_core.specs.declared.parts.Group.{Group}
@@ -78,10 +79,14 @@ pub data IsReadAsData (parts : Parts) (n : ℕ) : Type 0 where
   by_pin : (c : ℕ) (cell : Cell) (i : ℕ) → Reads parts.cells c cell i n → is_clock_buffer cell.kind ≡ false → IsReadAsData parts n
   by_output : IsIn (output_bits parts) n → IsReadAsData parts n
 
+abbrev pub is_constant : Option Pin → Bool
+is_constant (Some pins.Zero) = true
+is_constant (Some pins.One) = true
+is_constant _ = false
+
 -- a clock pin has a constant
-pub data HasConstantClock (cells : List RawCell) : Type 0 where
-  zero_pin : (c : ℕ) (cell : RawCell) → slice_get cells c ≡ Some cell → cell.clock ≡ Some pins.Zero → HasConstantClock cells
-  one_pin : (c : ℕ) (cell : RawCell) → slice_get cells c ≡ Some cell → cell.clock ≡ Some pins.One → HasConstantClock cells
+abbrev pub HasConstantClock : List RawCell → Type 0
+HasConstantClock cells = (c : ℕ) × (cell : RawCell) × (slice_get cells c ≡ Some cell) × (is_constant cell.clock ≡ true)
 
 -- The sentences of the refusals, each for the netlist without the dropped links
 

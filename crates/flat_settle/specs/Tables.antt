@@ -138,3 +138,8 @@ pub record IsFirstWith (marks others : List Bool) (want : Bool) (n : ℕ) : Type
   pub marked : is_marked marks n ≡ true
   pub other : is_marked others n ≡ want
   pub first : (m : ℕ) → m < n → is_marked marks m ≡ true → is_marked others m ≡ want → ⊥
+
+-- no number has P, or this one is the first that has it
+abbrev pub IsLeastOf : (ℕ → Type 0) → Option ℕ → Type 0
+IsLeastOf P None = (n : ℕ) → ¬ P n
+IsLeastOf P (Some n) = P n × ((m : ℕ) → m < n → ¬ P m)

@@ -3,6 +3,7 @@ ghost use Rattle.std.specs.Prelude.{◌≡◌, ◌↔◌, IfOk, IsTrue, map, fil
 ghost use Rattle.net_core.specs.declared.parts.Cell.{Cell as CellOf};
 ghost use Rattle.flat_settle.specs.Raw.{clock_net, flat_cell};
 ghost use Rattle.flat_settle.specs.Refusals.{HasConstantClock};
+ghost use Rattle.flat_settle.specs.Refusals as constants;
 ghost use Rattle.flat_settle.specs.Tables.{stays};
 
 use crate::raw::RawCell;
@@ -71,14 +72,20 @@ pub fn kept_cells(
     Ok(kept)
 }
 
+// Whether this is a constant.
+fn is_constant(clock: Option<Pin>) -> bool
+    ensures { result ≡ constants.is_constant clock }
+{
+    matches!(clock, Some(Pin::Zero) | Some(Pin::One))
+}
+
 /// Whether a constant is on a clock pin.
 pub fn has_constant_clock(cells: &[RawCell]) -> bool
     ensures { IsTrue result ↔ HasConstantClock cells.now }
 {
     for cell in cells {
-        match cell.clock {
-            Some(Pin::Zero) | Some(Pin::One) => return true,
-            _ => {}
+        if is_constant(cell.clock) {
+            return true;
         }
     }
     false

@@ -2,7 +2,9 @@
 //! is a flat netlist, or is refused.
 #![tactic(auto)]
 
+mod bit_name;
 mod driven;
+mod judge;
 mod keep;
 mod marks;
 mod owners;
