@@ -4,7 +4,7 @@ use Rattle.std.proofs.lemmas.Option.{same_Some}
 use Rattle.net_core.specs.Netlist.{IsIn, net_count}
 use Rattle.flat_settle.specs.declared.raw.RawCell.{RawCell}
 use Rattle.flat_settle.specs.declared.raw.Raw.{Raw}
-use Rattle.flat_settle.specs.Raw.{IsUnfolded}
+use Rattle.flat_settle.specs.Raw.{IsUnfolded, with_cells}
 use Rattle.flat_settle.specs.Driven.{IsDriven, from_port, from_cell, from_constant, from_driven, IsClocked, clock_port, through}
 use Rattle.flat_settle.specs.Tables.{LeadsFrom, IsStep, Spreads, itself, along, IsSomewhere, PortHas, SeedHas, IsSeedCell, no_link, constant, Appends}
 use Rattle.flat_settle.proofs.PortLemmas.{inputs_from, inputs_to, ports_within, clock_input}
@@ -31,14 +31,14 @@ module _ (raw : Raw) (unfolded : IsUnfolded raw) where
 
     driven_from : (n : ℕ) → Spreads false raw.cells ends n → IsDriven raw n
     driven_from _ (itself n own) = elim ((is_end n).0 own) [
-      | inl port ↦ from_port n (inputs_to raw [] n port)
+      | inl port ↦ from_port n (inputs_to (with_cells raw []) n port)
       | inr seed ↦ seed_driven n seed.0 seed.1 seed.3.1.0 seed.2 seed.3.1.1 seed.3.0
     ]
     driven_from _ (along m n step spreads) =
         from_driven step.c step.cell step.on.0 m n (record { at = step.at; on = step.on.1 }) step.leads.leads (record { at = step.at; from = step.leads.from }) (driven_from m spreads)
 
     spreads_from : (n : ℕ) → IsDriven raw n → Spreads false raw.cells ends n
-    spreads_from _ (from_port n own) = itself n ((is_end n).1 (inl (inputs_from raw [] n own)))
+    spreads_from _ (from_port n own) = itself n ((is_end n).1 (inl (inputs_from (with_cells raw []) n own)))
     spreads_from _ (from_cell c cell k n drives link) = itself n ((is_end n).1 (inr (c, cell, drives.at, (no_link link, (k, drives.on)))))
     spreads_from _ (from_constant c cell k n drives link reads) = itself n ((is_end n).1 (inr (c, cell, drives.at, (constant link reads, (k, drives.on)))))
     spreads_from _ (from_driven c cell k m n drives link reads driven) =
@@ -70,6 +70,15 @@ module _ (raw : Raw) (unfolded : IsUnfolded raw) where
   pub clocked_is : (n : ℕ) → Spreads true raw.cells (raw.clock.0 ∷ []) n ↔ IsClocked raw n
   clocked_is n = (clocked_from n, spread_clock n)
 
+pub only_of : (start first : List ℕ) (P : ℕ → Type 0) → start ≡ [] → Appends start first P → (n : ℕ) → IsIn first n ↔ P n
+only_of start first P is p n = (
+  λ own. elim ((p.each n).0 own) [ inl old ↦ absurd (none old.0 (sym (ap (λ (xs : List ℕ). slice_get xs old.0) is) ∙ old.1)) | inr own ↦ own ],
+  λ own. (p.each n).1 (inr own),
+)
+  where
+    none : (k : ℕ) → slice_get {X = ℕ} [] k ≡ Some n → ⊥
+    none k at = cc at
+
 -- two kinds of numbers behind an empty list
 pub ends_of : (start first both : List ℕ) (P Q : ℕ → Type 0) → start ≡ [] → Appends start first P → Appends first both Q → (n : ℕ) → IsIn both n ↔ (P n ⊎ Q n)
 ends_of start first both P Q is p q n = (to, from)
@@ -92,4 +101,10 @@ pub spread_cells : (clock : Bool) (a b : List RawCell) (xs ys : List ℕ) → a 
 spread_cells clock a b xs ys cells ends n = (
   λ own. subst (λ (es : List ℕ). Spreads clock b es n) ends (subst (λ (cs : List RawCell). Spreads clock cs xs n) cells own),
   λ own. subst (λ (cs : List RawCell). Spreads clock cs xs n) (sym cells) (subst (λ (es : List ℕ). Spreads clock b es n) (sym ends) own),
+)
+
+pub three_of : (start first both all : List ℕ) (P Q R : ℕ → Type 0) → start ≡ [] → Appends start first P → Appends first both Q → Appends both all R → (n : ℕ) → IsIn all n ↔ ((P n ⊎ Q n) ⊎ R n)
+three_of start first both all P Q R is p q r n = (
+  λ own. elim ((r.each n).0 own) [ inl early ↦ inl ((ends_of start first both P Q is p q n).0 early) | inr own ↦ inr own ],
+  λ own. elim own [ inl early ↦ (r.each n).1 (inl ((ends_of start first both P Q is p q n).1 early)) | inr late ↦ (r.each n).1 (inr late) ],
 )

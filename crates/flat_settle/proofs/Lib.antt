@@ -6,3 +6,5 @@ pub mod DrivenLemmas
 pub mod MarkedLemmas
 pub mod KeepLemmas
 pub mod OwnerLemmas
+pub mod JudgeLemmas
+pub mod NameLemmas

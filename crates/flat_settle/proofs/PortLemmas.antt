@@ -5,16 +5,15 @@ use Rattle.std.specs.Option.{option_map, option_map_or}
 use Rattle.std.specs.List.{range_with_len, filter}
 use Rattle.std.proofs.lemmas.Option.{slice_get-map, same_Some}
 use Rattle.net_core.specs.declared.parts.NetId.{NetId}
-use Rattle.net_core.specs.declared.parts.Cell.{Cell}
 use Rattle.net_core.specs.declared.parts.Group.{Group}
 use Rattle.net_core.specs.declared.parts.Port.{Port}
-use Rattle.net_core.specs.Netlist.{IsIn, input_bits, output_bits, port_nets, group_nets, net_count}
+use Rattle.net_core.specs.Netlist.{Parts, IsIn, input_bits, output_bits, port_nets, group_nets, net_count}
 use Rattle.net_core.specs.Tables.{IsAmongNets}
 use Rattle.net_core.proofs.ListLemmas.{option_map_some, flat_map_some, flat_map_at}
 use Rattle.net_core.proofs.PartsLemmas.{filter_some, filter_at, not_true}
 use Rattle.net_core.proofs.NetNameLemmas.{range_number}
 use Rattle.flat_settle.specs.declared.raw.Raw.{Raw}
-use Rattle.flat_settle.specs.Raw.{with_cells, IsUnfolded}
+use Rattle.flat_settle.specs.Raw.{IsUnfolded}
 use Rattle.flat_settle.specs.Tables.{Appends, IsSomewhere, PortHas}
 use Rattle.flat_settle.proofs.AppendLemmas.{appends_as}
 
@@ -33,28 +32,28 @@ pub port_group : (groups : List Group) (port : Port) (output : Bool) (group : Gr
 port_group groups port output group old new side at adds =
     appends_as old new (IsAmongNets group.bits) (PortHas groups output 0 port) (λ n (k, own). (side, (k, to_port groups port group at n k own))) (λ n own. (own.1.0, from_port groups port group at n own.1.0 own.1.1)) adds
 
-module _ (raw : Raw) (cells : List Cell) where
-  pub inputs_from : (n : ℕ) → IsIn (input_bits (with_cells raw cells)) n → IsSomewhere (PortHas raw.groups false) raw.ports n
+module _ (parts : Parts) where
+  pub inputs_from : (n : ℕ) → IsIn (input_bits parts) n → IsSomewhere (PortHas parts.groups false) parts.ports n
   inputs_from n (k, at) =
-      let own = flat_map_some (port_nets raw.groups) (filter (λ (port : Port). not port.output) raw.ports) k n at in
-      let port = filter_some (λ (port : Port). not port.output) raw.ports own.0 own.1 own.3 in
+      let own = flat_map_some (port_nets parts.groups) (filter (λ (port : Port). not port.output) parts.ports) k n at in
+      let port = filter_some (λ (port : Port). not port.output) parts.ports own.0 own.1 own.3 in
       (port.0, own.1, port.1, (not_true own.1.output port.2, (own.2, own.4)))
 
-  pub inputs_to : (n : ℕ) → IsSomewhere (PortHas raw.groups false) raw.ports n → IsIn (input_bits (with_cells raw cells)) n
+  pub inputs_to : (n : ℕ) → IsSomewhere (PortHas parts.groups false) parts.ports n → IsIn (input_bits parts) n
   inputs_to n (p, port, at, own) =
-      let kept = filter_at (λ (port : Port). not port.output) raw.ports p port at (ap not own.0) in
-      flat_map_at (port_nets raw.groups) (filter (λ (port : Port). not port.output) raw.ports) kept.0 port own.1.0 n kept.1 own.1.1
+      let kept = filter_at (λ (port : Port). not port.output) parts.ports p port at (ap not own.0) in
+      flat_map_at (port_nets parts.groups) (filter (λ (port : Port). not port.output) parts.ports) kept.0 port own.1.0 n kept.1 own.1.1
 
-  pub outputs_from : (n : ℕ) → IsIn (output_bits (with_cells raw cells)) n → IsSomewhere (PortHas raw.groups true) raw.ports n
+  pub outputs_from : (n : ℕ) → IsIn (output_bits parts) n → IsSomewhere (PortHas parts.groups true) parts.ports n
   outputs_from n (k, at) =
-      let own = flat_map_some (port_nets raw.groups) (filter (λ (port : Port). port.output) raw.ports) k n at in
-      let port = filter_some (λ (port : Port). port.output) raw.ports own.0 own.1 own.3 in
+      let own = flat_map_some (port_nets parts.groups) (filter (λ (port : Port). port.output) parts.ports) k n at in
+      let port = filter_some (λ (port : Port). port.output) parts.ports own.0 own.1 own.3 in
       (port.0, own.1, port.1, (port.2, (own.2, own.4)))
 
-  pub outputs_to : (n : ℕ) → IsSomewhere (PortHas raw.groups true) raw.ports n → IsIn (output_bits (with_cells raw cells)) n
+  pub outputs_to : (n : ℕ) → IsSomewhere (PortHas parts.groups true) parts.ports n → IsIn (output_bits parts) n
   outputs_to n (p, port, at, own) =
-      let kept = filter_at (λ (port : Port). port.output) raw.ports p port at own.0 in
-      flat_map_at (port_nets raw.groups) (filter (λ (port : Port). port.output) raw.ports) kept.0 port own.1.0 n kept.1 own.1.1
+      let kept = filter_at (λ (port : Port). port.output) parts.ports p port at own.0 in
+      flat_map_at (port_nets parts.groups) (filter (λ (port : Port). port.output) parts.ports) kept.0 port own.1.0 n kept.1 own.1.1
 
 -- every net bit of a group is one of the netlist
 module _ (raw : Raw) (unfolded : IsUnfolded raw) where

@@ -27,20 +27,30 @@ IsOffClock kept clocked n = IsOnClockPin kept.cells n × (is_marked clocked n �
 abbrev pub IsReadClock : Kept → List Bool → ℕ → Type 0
 IsReadClock kept clocked n = IsReadAsData (kept_parts kept) n × (is_marked clocked n ≡ true)
 
+-- the refusals of clocks, where none of the others holds
+abbrev pub IsClockFault : Kept → List Bool → Bool → Unsettled → Type 0
+IsClockFault kept clocked constant (faults.Duplicate name) = ⊥
+IsClockFault kept clocked constant (faults.ManyDrivers name) = ⊥
+IsClockFault kept clocked constant (faults.Undriven name) = ⊥
+IsClockFault kept clocked constant (faults.SecondClock name) = IsFirst kept.groups (IsOffClock kept clocked) name ⊎ (Never (IsOffClock kept clocked) × (constant ≡ true) × (name ≡ codes "C"))
+IsClockFault kept clocked constant (faults.ClockAsData name) = Never (IsOffClock kept clocked) × (constant ≡ false) × IsFirst kept.groups (IsReadClock kept clocked) name
+IsClockFault kept clocked constant faults.NoMemory = ⊤
+
+pub record IsClockSound (kept : Kept) (clocked : List Bool) (constant : Bool) : Type 0 where
+  pub clocks : Never (IsOffClock kept clocked)
+  pub constants : constant ≡ false
+  pub data_reads : Never (IsReadClock kept clocked)
+
+-- the refusals in their order
 abbrev pub IsJudgedFault : Kept → List Bool → List Bool → Bool → Unsettled → Type 0
 IsJudgedFault kept driven clocked constant (faults.Duplicate name) = ⊥
 IsJudgedFault kept driven clocked constant (faults.ManyDrivers name) = IsFirst kept.groups (HasTwoSources (kept_parts kept)) name
 IsJudgedFault kept driven clocked constant (faults.Undriven name) = Never (HasTwoSources (kept_parts kept)) × IsFirst kept.groups (IsReadUndriven kept driven) name
-IsJudgedFault kept driven clocked constant (faults.SecondClock name) =
-    Never (HasTwoSources (kept_parts kept)) × Never (IsReadUndriven kept driven)
-    × (IsFirst kept.groups (IsOffClock kept clocked) name ⊎ (Never (IsOffClock kept clocked) × (constant ≡ true) × (name ≡ codes "C")))
-IsJudgedFault kept driven clocked constant (faults.ClockAsData name) =
-    Never (HasTwoSources (kept_parts kept)) × Never (IsReadUndriven kept driven) × Never (IsOffClock kept clocked) × (constant ≡ false) × IsFirst kept.groups (IsReadClock kept clocked) name
+IsJudgedFault kept driven clocked constant (faults.SecondClock name) = Never (HasTwoSources (kept_parts kept)) × Never (IsReadUndriven kept driven) × IsClockFault kept clocked constant (faults.SecondClock name)
+IsJudgedFault kept driven clocked constant (faults.ClockAsData name) = Never (HasTwoSources (kept_parts kept)) × Never (IsReadUndriven kept driven) × IsClockFault kept clocked constant (faults.ClockAsData name)
 IsJudgedFault kept driven clocked constant faults.NoMemory = ⊤
 
 pub record IsJudgedSound (kept : Kept) (driven clocked : List Bool) (constant : Bool) : Type 0 where
   pub drivers : Never (HasTwoSources (kept_parts kept))
   pub reads : Never (IsReadUndriven kept driven)
-  pub clocks : Never (IsOffClock kept clocked)
-  pub constants : constant ≡ false
-  pub data_reads : Never (IsReadClock kept clocked)
+  pub clocks : IsClockSound kept clocked constant

@@ -76,8 +76,8 @@ pub data IsRead (parts : Parts) (n : ℕ) : Type 0 where
 
 -- the net bit is read as data: by an input pin of a cell other than IBUF, BUFG, buf and links, or by a top's output
 pub data IsReadAsData (parts : Parts) (n : ℕ) : Type 0 where
-  by_pin : (c : ℕ) (cell : Cell) (i : ℕ) → Reads parts.cells c cell i n → is_clock_buffer cell.kind ≡ false → IsReadAsData parts n
-  by_output : IsIn (output_bits parts) n → IsReadAsData parts n
+  by_data_pin : (c : ℕ) (cell : Cell) (i : ℕ) → Reads parts.cells c cell i n → is_clock_buffer cell.kind ≡ false → IsReadAsData parts n
+  by_data_output : IsIn (output_bits parts) n → IsReadAsData parts n
 
 abbrev pub is_constant : Option Pin → Bool
 is_constant (Some pins.Zero) = true

@@ -1,10 +1,10 @@
 //! The refusals of a netlist without its dropped links.
-ghost use Rattle.std.specs.Prelude.{◌≡◌, ℕ, ◌<◌, IfOk, IfErr, OnOk, length};
+ghost use Rattle.std.specs.Prelude.{◌≡◌, ℕ, ◌<◌, IfOk, IfErr, OnOk, length, slice_get, Some};
 ghost use Rattle.net_core.specs.Netlist.{net_count};
-ghost use Rattle.net_core.specs.WellFormed.{Each, HasRange};
+ghost use Rattle.net_core.specs.WellFormed.{Each, HasRange, net_names};
 ghost use Rattle.flat_settle.specs.Refusals.{HasTwoSources};
 ghost use Rattle.flat_settle.specs.Tables.{IsLeastOf};
-ghost use Rattle.flat_settle.specs.Judged.{kept_parts, HasMarks, IsReadUndriven, IsOffClock, IsReadClock, IsJudgedFault, IsJudgedSound};
+ghost use Rattle.flat_settle.specs.Judged.{kept_parts, HasMarks, IsReadUndriven, IsOffClock, IsReadClock, IsJudgedFault, IsJudgedSound, IsClockSound, IsClockFault};
 
 use crate::bit_name::bit_name;
 use crate::marks::{first_with, marks_of};
@@ -96,4 +96,70 @@ fn first_read_clock(
     push_ports(&mut list, &kept.groups, kept.ports.as_slice(), true)?;
     let marks = marks_of(alloc, count, list.as_slice())?;
     Ok(first_with(marks.as_slice(), clocked, true))
+}
+
+// The name of a net bit that is there.
+fn name_of(alloc: Global, kept: &Kept, net: u32) -> Result<Name, NoMemory>
+    requires ranges { Each HasRange kept.now.groups }
+    requires within { net < net_count kept.now.groups }
+    ensures { IfOk result (λ name. slice_get (net_names kept.now.groups) net ≡ Some name) }
+{
+    bit_name(alloc, &kept.groups, net)
+}
+
+// Whether the two refusals of clocks hold.
+fn judge_clocks(
+    alloc: Global,
+    kept: &Kept,
+    clocked: &[bool],
+    constant: bool,
+    count: usize,
+) -> Result<(), Unsettled>
+    requires marks { HasMarks kept.now count }
+    requires ranges { Each HasRange kept.now.groups }
+    requires count { count ≡ net_count kept.now.groups }
+    requires clocked { length clocked.now ≡ count }
+    ensures sound { OnOk result (IsClockSound kept.now clocked.now constant) }
+    ensures refused { IfErr result (IsClockFault kept.now clocked.now constant) }
+{
+    match first_off_clock(alloc, kept, clocked, count)? {
+        Some(net) => return Err(Unsettled::SecondClock(name_of(alloc, kept, net)?)),
+        None => {}
+    }
+    if constant {
+        return Err(Unsettled::SecondClock(Name::new(alloc, b"C")?));
+    }
+    match first_read_clock(alloc, kept, clocked, count)? {
+        Some(net) => Err(Unsettled::ClockAsData(name_of(alloc, kept, net)?)),
+        None => Ok(()),
+    }
+}
+
+/// Whether no refusal holds of a netlist, given the tables of its driven net bits and of the clock set,
+/// and whether a constant is on a clock pin. It takes time linear in the nets, cells and pins.
+pub fn judge(
+    alloc: Global,
+    kept: &Kept,
+    driven: &[bool],
+    clocked: &[bool],
+    constant: bool,
+    count: usize,
+) -> Result<(), Unsettled>
+    requires marks { HasMarks kept.now count }
+    requires ranges { Each HasRange kept.now.groups }
+    requires count { count ≡ net_count kept.now.groups }
+    requires driven { length driven.now ≡ count }
+    requires clocked { length clocked.now ≡ count }
+    ensures sound { OnOk result (IsJudgedSound kept.now driven.now clocked.now constant) }
+    ensures refused { IfErr result (IsJudgedFault kept.now driven.now clocked.now constant) }
+{
+    match first_shared(alloc, kept, count)? {
+        Some(net) => return Err(Unsettled::ManyDrivers(name_of(alloc, kept, net)?)),
+        None => {}
+    }
+    match first_undriven(alloc, kept, driven, count)? {
+        Some(net) => return Err(Unsettled::Undriven(name_of(alloc, kept, net)?)),
+        None => {}
+    }
+    judge_clocks(alloc, kept, clocked, constant, count)
 }
