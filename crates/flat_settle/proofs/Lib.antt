@@ -8,3 +8,6 @@ pub mod KeepLemmas
 pub mod OwnerLemmas
 pub mod JudgeLemmas
 pub mod NameLemmas
+pub mod DistinctLemmas
+pub mod LeftLemmas
+pub mod FormedLemmas

@@ -16,7 +16,7 @@ use Rattle.net_graph.specs.Reach as reach
 use Rattle.flat_settle.specs.declared.raw.RawCell.{RawCell}
 use Rattle.flat_settle.specs.Tables.{LeadsFrom, IsStep, Appends, AreSteps, Spreads, itself, along, row_of}
 
-abbrev pin_number : Pin → ℕ
+abbrev pub pin_number : Pin → ℕ
 pin_number (pins.Net net) = net.0
 pin_number _ = 0
 

@@ -1,6 +1,8 @@
 -- The sentences of the refusals by tables of the driven bits and of the clock set.
-use Rattle.std.specs.Prelude.{◌≡◌, ℕ, ◌<◌, ◌^◌, Bool, true, false, List, Option, None, Some, ⊤, ◌⊎◌, codes}
+use Rattle.std.specs.Prelude.{◌≡◌, ℕ, ◌<◌, ◌^◌, Bool, true, false, List, Option, None, Some, MatchOption, filter_map, slice_get, ⊤, ◌⊎◌, codes}
 use Rattle.net_core.specs.declared.parts.Group.{Group}
+use Rattle.net_core.specs.declared.parts.NetId.{NetId}
+use Rattle.net_core.specs.declared.parts.Cell.{Cell}
 use Rattle.net_core.specs.Netlist.{Parts, Reads, HasDriver}
 use Rattle.flat_settle.specs.declared.raw.Unsettled.{Unsettled}
 use Rattle.flat_settle.specs.declared.raw.Unsettled.TheVariants as faults
@@ -54,3 +56,10 @@ pub record IsJudgedSound (kept : Kept) (driven clocked : List Bool) (constant : 
   pub drivers : Never (HasTwoSources (kept_parts kept))
   pub reads : Never (IsReadUndriven kept driven)
   pub clocks : IsClockSound kept clocked constant
+
+-- the clock of the first cell that has one, or the kept clock
+abbrev pub IsFirstClockOf : Kept → NetId → Type 0
+IsFirstClockOf kept clock = MatchOption (slice_get (filter_map (λ (cell : Cell). cell.clock) kept.cells) 0) (clock ≡ kept.clock) (λ net. clock ≡ net)
+
+abbrev pub clocked_parts : Kept → NetId → Parts
+clocked_parts kept clock = record { groups = kept.groups; cells = kept.cells; ports = kept.ports; clock = clock }

@@ -10,6 +10,7 @@ mod marks;
 mod owners;
 mod pushes;
 mod raw;
+mod settle;
 mod steps;
 
 pub use raw::{Raw, RawCell, Unsettled};
