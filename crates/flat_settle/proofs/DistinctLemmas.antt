@@ -1,5 +1,5 @@
 -- Names that don't repeat in flat order.
-use Rattle.std.proofs.Common.{◌≡◌, ℕ, zero, suc, ◌+◌, ◌<◌, List, [], ◌∷◌, ◌++◌, map, slice_get, Option, Some, None, refl, ap, sym, ◌∙◌, arith, inl, inr, ◌⊎◌}
+use Rattle.std.proofs.Common.{◌≡◌, ℕ, zero, suc, ◌<◌, List, [], ◌∷◌, ◌++◌, map, slice_get, Option, Some, None, refl, ap, sym, ◌∙◌, arith, inl, inr}
 use Rattle.std.specs.List.{filter_map, cons_option, flat_map}
 use Rattle.std.specs.Option.{option_map}
 use Rattle.std.proofs.lemmas.Bool.{cases_eq, cases_lt}
@@ -10,7 +10,7 @@ use Rattle.net_core.proofs.ListLemmas.{filter_map_some}
 use Rattle.flat_settle.specs.declared.raw.RawCell.{RawCell}
 use Rattle.flat_settle.specs.declared.raw.Raw.{Raw}
 use Rattle.flat_settle.specs.Raw.{raw_identifiers}
-use Rattle.flat_settle.specs.Refusals.{Named, Identifier, BitName, group_names, flat_order, HasRepeat, IsRepeat}
+use Rattle.flat_settle.specs.Refusals.{Named, Identifier, BitName, group_names, flat_order, HasRepeat}
 
 module _ {X Y : Type 0} (f : X → Option Y) where
   -- two that are picked stand in their order

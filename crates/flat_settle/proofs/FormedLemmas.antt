@@ -1,14 +1,12 @@
 -- The kept parts are a well-formed netlist where no refusal holds, and the refusals by tables are those of the raw parts.
-use Rattle.std.proofs.Common.{◌≡◌, ℕ, zero, suc, ◌+◌, ◌<◌, ◌≤◌, ◌^◌, ◌↔◌, Bool, true, false, List, [], ◌∷◌, length, sum_by, slice_get, Option, Some, None, MatchOption, IsTrue, refl, ap, sym, ◌∙◌, subst, arith, inl, inr, ◌⊎◌, true≢false, codes}
+use Rattle.std.proofs.Common.{◌≡◌, ℕ, ◌<◌, ◌↔◌, Bool, true, false, List, length, sum_by, slice_get, Option, Some, None, MatchOption, IsTrue, refl, ap, sym, ◌∙◌, subst, arith, inl, inr, ◌⊎◌, true≢false}
 use Rattle.std.specs.List.{filter_map}
 use Rattle.std.proofs.lemmas.Bool.{cases_eq, false_from_ne_true}
-use Rattle.std.proofs.lemmas.Option.{same_Some, none-some}
 use Rattle.net_core.specs.declared.parts.NetId.{NetId}
 use Rattle.net_core.specs.declared.parts.Cell.{Cell}
 use Rattle.net_core.specs.declared.parts.Group.{Group}
 use Rattle.net_core.specs.CellTable.{is_clock_buffer}
-use Rattle.net_core.specs.Netlist.{Parts, Drives, Reads, HasDriver, IsIn, input_bits, output_bits, net_count, IsBuffered, IsClock, IsClockPort, port_nets}
-use Rattle.net_core.specs.Netlist as flat
+use Rattle.net_core.specs.Netlist.{Parts, Drives, HasDriver, IsIn, input_bits, net_count, IsBuffered, IsClock, IsClockPort}
 use Rattle.net_core.specs.WellFormed.{IsWellFormed, AllDiffer, Each, HasRow, HasOneClock, IsIdentifier, identifiers}
 use Rattle.net_core.proofs.ListLemmas.{filter_map_some}
 use Rattle.flat_settle.specs.declared.raw.RawCell.{RawCell}
@@ -16,12 +14,12 @@ use Rattle.flat_settle.specs.declared.raw.Raw.{Raw}
 use Rattle.flat_settle.specs.declared.raw.Unsettled.{Unsettled}
 use Rattle.flat_settle.specs.declared.raw.Unsettled.TheVariants as faults
 use Rattle.flat_settle.specs.declared.judge.Kept.{Kept}
-use Rattle.flat_settle.specs.Raw.{clock_net, flat_cell, with_cells, raw_identifiers, IsUnfolded}
-use Rattle.flat_settle.specs.Driven.{IsDriven, IsClocked, clock_port, IsDropped, Leaves}
-use Rattle.flat_settle.specs.Refusals.{HasRepeat, flat_order, IsFirst, HasTwoSources, input_and_pin, two_pins, IsOnClockPin, IsRead, by_pin, by_clock_pin, by_output, IsReadAsData, by_data_pin, by_data_output, is_constant, HasConstantClock, IsUndriven, IsOtherClock, IsClockData, Never, IsFaultIn, IsFaultOf, HasNoFault, IsFirstClock}
-use Rattle.flat_settle.specs.Judged.{kept_parts, clocked_parts, HasMarks, IsReadUndriven, IsOffClock, IsReadClock, IsJudgedFault, IsJudgedSound}
-use Rattle.flat_settle.specs.Tables.{is_marked, IsSomewhere, PortHas}
-use Rattle.flat_settle.proofs.PortLemmas.{inputs_from, inputs_to, outputs_from, ports_within, clock_input}
+use Rattle.flat_settle.specs.Raw.{with_cells, raw_identifiers, IsUnfolded}
+use Rattle.flat_settle.specs.Driven.{IsDriven, IsClocked, clock_port, Leaves}
+use Rattle.flat_settle.specs.Refusals.{HasRepeat, flat_order, IsFirst, input_and_pin, two_pins, IsOnClockPin, IsRead, by_pin, by_clock_pin, by_output, by_data_pin, by_data_output, is_constant, HasConstantClock, IsUndriven, IsOtherClock, IsClockData, IsFaultOf, HasNoFault, IsFirstClock}
+use Rattle.flat_settle.specs.Judged.{HasMarks, IsReadUndriven, IsOffClock, IsReadClock, IsJudgedFault, IsJudgedSound}
+use Rattle.flat_settle.specs.Tables.{is_marked}
+use Rattle.flat_settle.proofs.PortLemmas.{inputs_to, outputs_from, ports_within}
 use Rattle.flat_settle.proofs.KeepLemmas.{left_from}
 use Rattle.flat_settle.proofs.DistinctLemmas.{identifiers_distinct, names_distinct}
 use Rattle.flat_settle.proofs.LeftLemmas.{fewer_cells, fewer_pins, row_left, same_root, identifiers_left, drives_from, reads_from, driven_left, buffered_from, clocked_from}
@@ -97,18 +95,31 @@ module _ (raw : Raw) (unfolded : IsUnfolded raw) (distinct : ¬ HasRepeat (flat_
     fault_in (faults.Duplicate name) own = absurd own
     fault_in (faults.ManyDrivers name) own = (cells, leaves, (distinct, own))
     fault_in (faults.Undriven name) own = (cells, leaves, (distinct, own.0, first_as raw.groups (IsReadUndriven kept_of driven) (IsUndriven raw cells) name undriven_to undriven_of own.1))
-    fault_in (faults.SecondClock name) own = (cells, leaves, (distinct, own.0, (λ n u. own.1 n (undriven_of n u)), elim own.2 [
-      | inl first ↦ inl (first_as raw.groups (IsOffClock kept_of clocked) (IsOtherClock raw cells) name other_to other_of first)
-      | inr only ↦ inr ((λ n o. only.0 n (other_of n o)), constants.0 only.1, only.2)
-    ]))
-    fault_in (faults.ClockAsData name) own = (cells, leaves, (
-      distinct,
-      own.0,
-      (λ n u. own.1 n (undriven_of n u)),
-      (λ n o. own.2.0 n (other_of n o)),
-      no_constant own.2.1,
-      first_as raw.groups (IsReadClock kept_of clocked) (IsClockData raw cells) name data_to data_of own.2.2,
-    ))
+    fault_in (faults.SecondClock name) own = (
+      cells,
+      leaves,
+      (
+        distinct,
+        own.0,
+        (λ n u. own.1 n (undriven_of n u)),
+        elim own.2 [
+          | inl first ↦ inl (first_as raw.groups (IsOffClock kept_of clocked) (IsOtherClock raw cells) name other_to other_of first)
+          | inr only ↦ inr ((λ n o. only.0 n (other_of n o)), constants.0 only.1, only.2)
+        ],
+      ),
+    )
+    fault_in (faults.ClockAsData name) own = (
+      cells,
+      leaves,
+      (
+        distinct,
+        own.0,
+        (λ n u. own.1 n (undriven_of n u)),
+        (λ n o. own.2.0 n (other_of n o)),
+        no_constant own.2.1,
+        first_as raw.groups (IsReadClock kept_of clocked) (IsClockData raw cells) name data_to data_of own.2.2,
+      ),
+    )
     fault_in faults.NoMemory own = tt
 
     pub sound_in : IsJudgedSound kept_of driven clocked constant → HasNoFault raw cells

@@ -1,16 +1,15 @@
 -- What the lists of net bits tell.
-use Rattle.std.proofs.Common.{◌≡◌, ℕ, ◌<◌, Bool, true, false, not, ◌||◌, List, [], length, slice_get, Option, Some, None, MatchOption, ◌⊎◌, inl, inr, refl, ap, sym, ◌∙◌, subst, ◌↔◌, arith, true≢false}
+use Rattle.std.proofs.Common.{◌≡◌, ℕ, ◌<◌, Bool, true, false, not, ◌||◌, List, length, slice_get, Option, Some, None, MatchOption, ◌⊎◌, inl, inr, refl, ap, sym, ◌∙◌, subst, ◌↔◌, true≢false}
 use Rattle.std.proofs.lemmas.Bool.{cases_eq}
 use Rattle.std.proofs.lemmas.Option.{same_Some, slice_get_within}
-use Rattle.net_core.specs.declared.parts.NetId.{NetId}
 use Rattle.net_core.specs.declared.parts.Pin.TheVariants as pins
 use Rattle.net_core.specs.declared.parts.Cell.{Cell}
 use Rattle.net_core.specs.CellTable.{is_clock_buffer}
-use Rattle.net_core.specs.Netlist.{Parts, Drives, Reads, HasDriver, IsIn, input_bits, output_bits}
+use Rattle.net_core.specs.Netlist.{Parts, Drives, Reads, HasDriver, IsIn}
 use Rattle.flat_settle.specs.declared.owners.Output.{Output}
 use Rattle.flat_settle.specs.Refusals.{HasTwoSources, input_and_pin, two_pins, IsOnClockPin, IsRead, IsReadAsData}
 use Rattle.flat_settle.specs.Refusals as refusals
-use Rattle.flat_settle.specs.Tables.{is_marked, IsFirstWith, IsLeastOf, IsSomewhere, PinHas, PortHas, ReadHas, ClockHas, SharedHas, SharedPinHas, HasOutput, AreOwners}
+use Rattle.flat_settle.specs.Tables.{is_marked, IsFirstWith, IsLeastOf, IsSomewhere, PinHas, PortHas, ReadHas, ClockHas, SharedHas, HasOutput, AreOwners}
 use Rattle.flat_settle.proofs.PortLemmas.{inputs_from, inputs_to, outputs_from, outputs_to}
 
 -- the first marked number with this other mark
@@ -98,9 +97,9 @@ module _ (parts : Parts) where
           | inl same_cell ↦ elim (cases_eq own.0.pin k) [
             | inr other_pin ↦ listed n c a k first (inr (λ here. other_pin (ap (λ (o : Output). o.pin) (one_output n own.0 (record { cell = c; pin = k }) own.1 here))))
             | inl same_pin ↦ listed n d b l second (inr (λ here. apart (
-                sym same_cell ∙ ap (λ (o : Output). o.cell) (one_output n own.0 (record { cell = d; pin = l }) own.1 here),
-                sym same_pin ∙ ap (λ (o : Output). o.pin) (one_output n own.0 (record { cell = d; pin = l }) own.1 here),
-              )))
+              sym same_cell ∙ ap (λ (o : Output). o.cell) (one_output n own.0 (record { cell = d; pin = l }) own.1 here),
+              sym same_pin ∙ ap (λ (o : Output). o.pin) (one_output n own.0 (record { cell = d; pin = l }) own.1 here),
+            )))
           ]
         ]
 

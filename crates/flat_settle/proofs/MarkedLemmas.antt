@@ -1,11 +1,11 @@
 -- Marks of the numbers of a list, and the first of them.
-use Rattle.std.proofs.Common.{◌≡◌, ℕ, zero, suc, ◌+◌, ◌<◌, ◌≤◌, Bool, true, false, List, [], ◌∷◌, length, get_or, set, replicate, slice_get, Some, refl, ap, sym, ◌∙◌, subst, arith, ◌⊎◌, inl, inr, ◌↔◌, true≢false}
-use Rattle.std.proofs.lemmas.Bool.{cases_eq, cases_lt}
+use Rattle.std.proofs.Common.{◌≡◌, ℕ, ◌+◌, ◌<◌, ◌≤◌, Bool, true, false, List, length, set, replicate, slice_get, Some, ap, sym, ◌∙◌, arith, inl, inr, ◌↔◌, true≢false}
+use Rattle.std.proofs.lemmas.Bool.{cases_lt}
 use Rattle.std.proofs.lemmas.List.{get_or-replicate, get_or_past, length-replicate}
 use Rattle.std.proofs.lemmas.Option.{slice_get_within, same_Some}
 use Rattle.net_core.specs.Netlist.{IsIn}
 use Rattle.net_core.specs.Tables.{AddsMarks}
-use Rattle.net_core.proofs.MarkLemmas.{Below, marks_set, marks_more, marks_all}
+use Rattle.net_core.proofs.MarkLemmas.{Below, marks_set, marks_more}
 use Rattle.flat_settle.specs.Tables.{is_marked}
 
 abbrev pub NumberAt : List ℕ → ℕ → ℕ → Type 0

@@ -1,9 +1,8 @@
 -- The sentences of the refusals by tables of the driven bits and of the clock set.
-use Rattle.std.specs.Prelude.{◌≡◌, ℕ, ◌<◌, ◌^◌, Bool, true, false, List, Option, None, Some, MatchOption, filter_map, slice_get, ⊤, ◌⊎◌, codes}
-use Rattle.net_core.specs.declared.parts.Group.{Group}
+use Rattle.std.specs.Prelude.{◌≡◌, ℕ, ◌<◌, ◌^◌, Bool, true, false, List, MatchOption, filter_map, slice_get, ⊤, ◌⊎◌, codes}
 use Rattle.net_core.specs.declared.parts.NetId.{NetId}
 use Rattle.net_core.specs.declared.parts.Cell.{Cell}
-use Rattle.net_core.specs.Netlist.{Parts, Reads, HasDriver}
+use Rattle.net_core.specs.Netlist.{Parts, HasDriver}
 use Rattle.flat_settle.specs.declared.raw.Unsettled.{Unsettled}
 use Rattle.flat_settle.specs.declared.raw.Unsettled.TheVariants as faults
 use Rattle.flat_settle.specs.declared.judge.Kept.{Kept}

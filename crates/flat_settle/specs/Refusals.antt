@@ -1,5 +1,5 @@
 -- Why a netlist can't be settled, and what it is when settled.
-use Rattle.std.specs.Prelude.{◌≡◌, ℕ, ◌<◌, Bool, true, false, List, [], ◌∷◌, ◌++◌, map, filter_map, flat_map, slice_get, Option, Some, None, MatchOption, ⊤, ◌⊎◌, codes}
+use Rattle.std.specs.Prelude.{◌≡◌, ℕ, ◌<◌, Bool, true, false, List, ◌∷◌, ◌++◌, map, filter_map, flat_map, slice_get, Option, Some, MatchOption, ⊤, ◌⊎◌, codes}
 use Rattle.std.specs.Option.{option_map}
 use Rattle.net_core.specs.declared.parts.NetId.{NetId}
 use Rattle.net_core.specs.declared.parts.Pin.{Pin}

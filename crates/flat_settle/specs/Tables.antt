@@ -8,11 +8,10 @@ use Rattle.net_core.specs.declared.parts.Cell.{Cell}
 use Rattle.net_core.specs.declared.parts.Group.{Group}
 use Rattle.net_core.specs.declared.parts.Port.{Port}
 use Rattle.net_core.specs.CellTable.{is_clock_buffer}
-use Rattle.net_core.specs.Netlist.{Drives, Reads, HasDriver, IsIn, port_nets}
+use Rattle.net_core.specs.Netlist.{Drives, IsIn, port_nets}
 use Rattle.net_core.specs.Tables.{IsOn}
 use Rattle.flat_settle.specs.declared.raw.RawCell.{RawCell}
 use Rattle.flat_settle.specs.declared.owners.Output.{Output}
-use Rattle.flat_settle.specs.Raw.{RawDrives, RawReads}
 use Rattle.flat_settle.specs.Driven.{ReadsConstant}
 
 -- the mark of a net

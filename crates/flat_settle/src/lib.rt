@@ -14,3 +14,4 @@ mod settle;
 mod steps;
 
 pub use raw::{Raw, RawCell, Unsettled};
+pub use settle::settle_distinct;

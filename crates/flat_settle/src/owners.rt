@@ -58,13 +58,7 @@ fn push_shared_pin(
 }
 
 // Whether the net is an input or has another pin in the table.
-fn is_shared(
-    table: &[Option<Output>],
-    inputs: &[bool],
-    cell: usize,
-    pin: usize,
-    net: NetId,
-) -> bool
+fn is_shared(table: &[Option<Output>], inputs: &[bool], cell: usize, pin: usize, net: NetId) -> bool
     ensures { IsTrue result ↔ ((is_marked inputs.now net.0 ≡ true) ⊎ (¬ HasOutput table.now net.0 (record { cell = cell; pin = pin }))) }
 {
     if inputs.get(net.0 as usize).copied().unwrap_or(false) {

@@ -56,8 +56,17 @@ fn build(alloc: Global, kept: Kept) -> Result<Flat, NoMemory>
     )
 }
 
-// The netlist of raw parts in which no name stands twice.
-fn settle_distinct(alloc: Global, raw: Raw) -> Result<Flat, Unsettled>
+/// The netlist of raw parts in which no name stands twice: without the links of undriven net bits, and with
+/// the clock of its first cell that has one, or the clock port's bit. It takes time linear in the nets,
+/// cells, pins and bytes of names.
+///
+/// # Errors
+///
+/// Each refusal comes exactly where its sentence holds and none of those before it does: a net bit with
+/// two sources (IEEE 1364-2005, 4.2), one that is read and not driven, one on a clock pin outside the
+/// clock set or a constant there, and a bit of the clock set that is read as data. It has the name of
+/// the first such bit in flat order.
+pub fn settle_distinct(alloc: Global, raw: Raw) -> Result<Flat, Unsettled>
     requires unfolded { IsUnfolded raw }
     requires distinct { ¬ HasRepeat (flat_order raw) }
     ensures settled { IfOk result (λ flat. Settles raw (parts_of flat)) }

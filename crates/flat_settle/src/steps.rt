@@ -27,7 +27,11 @@ fn leads_from(cell: &RawCell, clock: bool) -> Option<NetId>
     ensures found { IfSome result (λ net. LeadsFrom clock cell.now net.0) }
     ensures missing { IfNone result ((m : ℕ) → ¬ LeadsFrom clock cell.now m) }
 {
-    let leads = if clock { is_clock_buffer(cell.kind) } else { cell.link };
+    let leads = if clock {
+        is_clock_buffer(cell.kind)
+    } else {
+        cell.link
+    };
     if !leads {
         return None;
     }

@@ -1,5 +1,5 @@
-use Rattle.std.proofs.Common.{◌≡◌, ◌+◌, ◌-◌, ap, sym, ◌∙◌, subst, slice_get, Some, arith}
-use Rattle.net_core.specs.WellFormed.{bit_names, indexed_name}
+use Rattle.std.proofs.Common.{ap, sym, ◌∙◌, Some, arith}
+use Rattle.net_core.specs.WellFormed.{indexed_name}
 use Rattle.net_core.proofs.ClockLemmas.{ok_then}
 use Rattle.flat_settle.proofs.NameLemmas.{vector_width, vector_name}
 use Rattle.flat_settle.proofs.bit_name.group_bit_name.Goals as goal

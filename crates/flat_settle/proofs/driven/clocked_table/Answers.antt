@@ -1,7 +1,7 @@
-use Rattle.std.proofs.Common.{◌≡◌, ◌∷◌, [], ◌<◌, ◌↔◌, ℕ, List, true, slice_get, refl, ap, sym, ◌∙◌, subst, arith}
+use Rattle.std.proofs.Common.{◌∷◌, [], List, true, slice_get, refl, ap, sym, ◌∙◌, subst, arith}
 use Rattle.net_core.proofs.ClockLemmas.{ok_then}
 use Rattle.flat_settle.specs.declared.raw.RawCell.{RawCell}
-use Rattle.flat_settle.specs.Tables.{Spreads, IsStep}
+use Rattle.flat_settle.specs.Tables.{IsStep}
 use Rattle.flat_settle.proofs.DrivenLemmas.{leads_low, step_low, clock_low, clocked_is, spread_cells}
 use Rattle.flat_settle.proofs.driven.clocked_table.Goals as goal
 

@@ -1,9 +1,9 @@
-use Rattle.std.proofs.Common.{◌≡◌, ◌<◌, ◌⊎◌, ◌↔◌, ℕ, List, Bool, false, slice_get, ap, sym, ◌∙◌, subst, arith}
+use Rattle.std.proofs.Common.{◌⊎◌, ◌↔◌, ℕ, List, false, slice_get, ap, sym, ◌∙◌, subst, arith}
 use Rattle.net_core.specs.declared.parts.Port.{Port}
 use Rattle.net_core.specs.Netlist.{IsIn}
 use Rattle.net_core.proofs.ClockLemmas.{ok_then}
 use Rattle.flat_settle.specs.declared.raw.RawCell.{RawCell}
-use Rattle.flat_settle.specs.Tables.{Appends, IsStep, IsSomewhere, PortHas, SeedHas, Spreads}
+use Rattle.flat_settle.specs.Tables.{Appends, IsStep, IsSomewhere, PortHas, SeedHas}
 use Rattle.flat_settle.proofs.DrivenLemmas.{leads_low, step_low, ends_low, driven_is, ends_of, spread_cells}
 use Rattle.flat_settle.proofs.driven.driven_table.Goals as goal
 use Rattle.flat_settle.proofs.driven.driven_table.Goals.{After-as_slice-4}

@@ -1,7 +1,7 @@
-use Rattle.std.proofs.Common.{arith, refl, Some}
+use Rattle.std.proofs.Common.{arith}
 use Rattle.flat_settle.specs.Refusals as refusals
-use Rattle.flat_settle.specs.Judged.{IsOffClock, IsReadClock, kept_parts}
-use Rattle.flat_settle.proofs.JudgeLemmas.{found_low, data_read}
+use Rattle.flat_settle.specs.Judged.{IsOffClock}
+use Rattle.flat_settle.proofs.JudgeLemmas.{found_low}
 use Rattle.flat_settle.proofs.judge.judge_clocks.Goals as goal
 
 pub name_of-requires-clause-within : goal.name_of-requires-clause-within

@@ -1,4 +1,4 @@
-use Rattle.std.proofs.Common.{get_or, ℕ, List, subst, sym, ap, ◌+◌}
+use Rattle.std.proofs.Common.{get_or, ℕ, List, subst, sym, ◌+◌}
 use Rattle.std.proofs.lemmas.Option.{slice_get-get_or}
 use Rattle.net_core.proofs.MarkLemmas.{Below, NetAt}
 use Rattle.flat_settle.specs.Tables.{Appends}

@@ -1,7 +1,7 @@
 use Rattle.std.proofs.Common.{List, subst, sym, ◌∙◌}
 use Rattle.net_core.specs.declared.parts.Pin.{Pin}
 use Rattle.flat_settle.specs.Tables.{Appends, IsSomewhere, PinHas, ReadHas}
-use Rattle.flat_settle.proofs.AppendLemmas.{on_ok_as, appends_as, appends_nothing}
+use Rattle.flat_settle.proofs.AppendLemmas.{on_ok_as, appends_as}
 use Rattle.flat_settle.proofs.pushes.push_cell_reads.Goals as goal
 
 pub returns-then-is_counted : goal.returns-then-is_counted

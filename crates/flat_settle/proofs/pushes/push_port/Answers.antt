@@ -1,7 +1,7 @@
 use Rattle.std.proofs.Common.{List, subst, sym}
 use Rattle.net_core.specs.declared.parts.NetId.{NetId}
 use Rattle.net_core.specs.Tables.{IsAmongNets}
-use Rattle.flat_settle.specs.Tables.{Appends, PortHas}
+use Rattle.flat_settle.specs.Tables.{Appends}
 use Rattle.flat_settle.proofs.AppendLemmas.{on_ok_as}
 use Rattle.flat_settle.proofs.PortLemmas.{port_group, same_sides}
 use Rattle.flat_settle.proofs.pushes.push_port.Goals as goal

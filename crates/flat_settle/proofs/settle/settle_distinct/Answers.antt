@@ -1,8 +1,6 @@
 use Rattle.std.proofs.Common.{◌≡◌, ◌↔◌, ℕ, List, Bool, true, map, filter, IsTrue, ap, sym, ◌∙◌, subst}
 use Rattle.net_core.specs.declared.parts.Cell.{Cell}
-use Rattle.net_core.specs.declared.parts.Group.{Group}
-use Rattle.net_core.specs.declared.parts.NetId.{NetId}
-use Rattle.net_core.specs.Netlist.{Parts, parts_of, net_count}
+use Rattle.net_core.specs.Netlist.{Parts, net_count}
 use Rattle.net_core.specs.WellFormed.{IsWellFormed, Each, HasRange}
 use Rattle.flat_settle.specs.declared.judge.Kept.{Kept}
 use Rattle.flat_settle.specs.declared.raw.RawCell.{RawCell}

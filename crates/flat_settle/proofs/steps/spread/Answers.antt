@@ -1,8 +1,8 @@
-use Rattle.std.proofs.Common.{◌≡◌, ◌<◌, ◌↔◌, ℕ, List, length, ap, sym, ◌∙◌, subst, arith}
+use Rattle.std.proofs.Common.{◌↔◌, ℕ, List, length, ap, sym, subst, arith}
 use Rattle.net_core.specs.Netlist.{IsIn}
 use Rattle.net_core.proofs.ClockLemmas.{ok_then}
 use Rattle.net_graph.specs.Graph.{Leads}
-use Rattle.flat_settle.specs.Tables.{AreSteps, IsStep, row_of}
+use Rattle.flat_settle.specs.Tables.{IsStep, row_of}
 use Rattle.flat_settle.proofs.StepLemmas.{steps_all, spread_is}
 use Rattle.flat_settle.proofs.steps.spread.Goals as goal
 
