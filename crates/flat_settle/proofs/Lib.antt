@@ -11,3 +11,5 @@ pub mod NameLemmas
 pub mod DistinctLemmas
 pub mod LeftLemmas
 pub mod FormedLemmas
+pub mod NumberLemmas
+pub mod SeenLemmas

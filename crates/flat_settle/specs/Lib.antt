@@ -3,3 +3,4 @@ pub mod Driven
 pub mod Refusals
 pub mod Tables
 pub mod Judged
+pub mod Naming

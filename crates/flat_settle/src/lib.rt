@@ -7,9 +7,11 @@ mod driven;
 mod judge;
 mod keep;
 mod marks;
+mod numbers;
 mod owners;
 mod pushes;
 mod raw;
+mod seen;
 mod settle;
 mod steps;
 
