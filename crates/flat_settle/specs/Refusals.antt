@@ -32,8 +32,11 @@ abbrev pub group_names : Group → List Named
 group_names group = Identifier group.name ∷ map BitName (bit_names group)
 
 -- flat order: through the groups, and after them through the cells that have a name
+abbrev pub cell_names : List RawCell → List Named
+cell_names cells = filter_map (λ (cell : RawCell). option_map Identifier cell.name) cells
+
 abbrev pub flat_order : Raw → List Named
-flat_order raw = flat_map group_names raw.groups ++ filter_map (λ (cell : RawCell). option_map Identifier cell.name) raw.cells
+flat_order raw = flat_map group_names raw.groups ++ cell_names raw.cells
 
 -- an earlier one equals the one at this place
 abbrev pub IsRepeat : List Named → ℕ → Named → Type 0
@@ -121,6 +124,7 @@ IsFaultIn raw cells faults.NoMemory = ⊤
 
 abbrev pub IsFaultOf : Raw → Unsettled → Type 0
 IsFaultOf raw faults.NoMemory = ⊤
+IsFaultOf raw (faults.Duplicate name) = IsFirstRepeat (flat_order raw) name
 IsFaultOf raw fault = (cells : List Cell) × Leaves raw raw.cells cells × IsFaultIn raw cells fault
 
 -- none of the sentences holds

@@ -8,8 +8,8 @@ use itoa::Buffer;
 use net_core::Group;
 use std::alloc::Global;
 
-// The index of a vector's bit by its place from the left.
-fn index_at(left: u32, right: u32, place: usize) -> u32
+/// The index of a vector's bit by its place from the left.
+pub fn index_at(left: u32, right: u32, place: usize) -> u32
     requires small { (left ≤ 1048575) × (right ≤ 1048575) }
     requires within { place ≤ (left - right) + (right - left) }
     ensures { slice_get (range_indices left right) place ≡ Some result }
@@ -21,8 +21,8 @@ fn index_at(left: u32, right: u32, place: usize) -> u32
     }
 }
 
-// The name with an index behind it.
-fn indexed(alloc: Global, front: &[u8], index: u32) -> Result<Name, NoMemory>
+/// The name with an index behind it.
+pub fn indexed(alloc: Global, front: &[u8], index: u32) -> Result<Name, NoMemory>
     ensures { IfOk result (λ name. name ≡ indexed_name front.now index) }
 {
     let mut buffer = Buffer::new();

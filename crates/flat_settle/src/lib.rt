@@ -11,9 +11,10 @@ mod numbers;
 mod owners;
 mod pushes;
 mod raw;
+mod repeats;
 mod seen;
-mod settle;
+mod settled;
 mod steps;
 
 pub use raw::{Raw, RawCell, Unsettled};
-pub use settle::settle_distinct;
+pub use settled::settle;

@@ -1,5 +1,5 @@
 //! Names that were met in flat order.
-ghost use Rattle.std.specs.Prelude.{◌≡◌, ℕ, ◌+◌, ◌*◌, ◌^◌, ◌<◌, ◌≤◌, List, [], ◌∷◌, ◌++◌, IfOk, IfSome, IfNone, MatchBool, length, slice_get, Some};
+ghost use Rattle.std.specs.Prelude.{◌≡◌, ℕ, ◌+◌, ◌*◌, ◌^◌, ◌<◌, ◌≤◌, List, [], ◌∷◌, ◌++◌, IfOk, OnOk, IfSome, IfNone, MatchBool, length, slice_get, Some};
 ghost use Rattle.net_core.specs.Netlist.{IsIn};
 ghost use Rattle.net_core.specs.WellFormed.{indexed_name, IsIdentifier};
 ghost use Rattle.flat_settle.specs.Refusals.{Named};
@@ -31,7 +31,8 @@ fn add_key(keys: &mut IndexSet<u64>, key: u64) -> Result<bool, NoMemory>
 pub fn see(alloc: Global, seen: &mut Seen, front: &[u8], code: u64) -> Result<bool, NoMemory>
     requires few { length seen.old.fronts < 2 ^ 30 }
     requires coded { IsCoded front.now code }
-    ensures { IfOk result (λ there. (names : List Named) → AreSeen seen.old.fronts seen.old.keys.keys names → Sees seen.new.fronts seen.new.keys.keys names (named front.now code) there) }
+    ensures few { OnOk result (length seen.new.fronts ≤ length seen.old.fronts + 1) }
+    ensures sees { IfOk result (λ there. (names : List Named) → AreSeen seen.old.fronts seen.old.keys.keys names → Sees seen.new.fronts seen.new.keys.keys names (named front.now code) there) }
 {
     let number = seen.fronts.number(alloc, front)?;
     add_key(&mut seen.keys, number as u64 * 8_589_934_592 + code)

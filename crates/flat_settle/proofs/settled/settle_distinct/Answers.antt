@@ -11,8 +11,8 @@ use Rattle.flat_settle.specs.Judged.{HasMarks, IsJudgedFault, IsJudgedSound, IsF
 use Rattle.flat_settle.specs.Tables.{is_marked, stays}
 use Rattle.flat_settle.proofs.KeepLemmas.{leaves}
 use Rattle.flat_settle.proofs.FormedLemmas.{has_marks, fault_in, sound_in, formed}
-use Rattle.flat_settle.proofs.settle.settle_distinct.Goals as goal
-use Rattle.flat_settle.proofs.settle.settle_distinct.Goals.{After-as_slice-5}
+use Rattle.flat_settle.proofs.settled.settle_distinct.Goals as goal
+use Rattle.flat_settle.proofs.settled.settle_distinct.Goals.{After-as_slice-5}
 
 left : (c : After-as_slice-5) → List Cell
 left c = map flat_cell (filter (stays c.as_slice-3.result.now) c.args.raw.cells)

@@ -12,6 +12,7 @@ use crate::judge::{Kept, judge};
 use crate::keep::{first_clock, has_constant_clock, kept_cells};
 use crate::pushes::count_nets;
 use crate::raw::{Raw, Unsettled};
+use crate::repeats::repeated_name;
 use ila_base::{Items, NoMemory};
 use net_core::Flat;
 use std::alloc::Global;
@@ -56,17 +57,8 @@ fn build(alloc: Global, kept: Kept) -> Result<Flat, NoMemory>
     )
 }
 
-/// The netlist of raw parts in which no name stands twice: without the links of undriven net bits, and with
-/// the clock of its first cell that has one, or the clock port's bit. It takes time linear in the nets,
-/// cells, pins and bytes of names.
-///
-/// # Errors
-///
-/// Each refusal comes exactly where its sentence holds and none of those before it does: a net bit with
-/// two sources (IEEE 1364-2005, 4.2), one that is read and not driven, one on a clock pin outside the
-/// clock set or a constant there, and a bit of the clock set that is read as data. It has the name of
-/// the first such bit in flat order.
-pub fn settle_distinct(alloc: Global, raw: Raw) -> Result<Flat, Unsettled>
+// The netlist of raw parts in which no name stands twice.
+fn settle_distinct(alloc: Global, raw: Raw) -> Result<Flat, Unsettled>
     requires unfolded { IsUnfolded raw }
     requires distinct { ¬ HasRepeat (flat_order raw) }
     ensures settled { IfOk result (λ flat. Settles raw (parts_of flat)) }
@@ -87,5 +79,27 @@ pub fn settle_distinct(alloc: Global, raw: Raw) -> Result<Flat, Unsettled>
     ) {
         Ok(()) => Ok(build(alloc, kept)?),
         Err(fault) => Err(fault),
+    }
+}
+
+/// The netlist of raw parts: without the links of undriven net bits, and with the clock of its first
+/// cell that has one, or the clock port's bit. It takes time linear in the nets, cells, pins and bytes
+/// of names.
+///
+/// # Errors
+///
+/// Each refusal comes exactly where its sentence holds and none of those before it does: an identifier
+/// or net bit with the name of an earlier one (IEEE 1364-2005, 4.11), a net bit with two sources (4.2),
+/// one that is read and not driven, one on a clock pin outside the clock set or a constant there, and a
+/// bit of the clock set that is read as data. It has the name of the first in flat order: through the
+/// groups, each with its identifier and then its bits, and after them the cells.
+pub fn settle(alloc: Global, raw: Raw) -> Result<Flat, Unsettled>
+    requires { IsUnfolded raw }
+    ensures settled { IfOk result (λ flat. Settles raw (parts_of flat)) }
+    ensures refused { IfErr result (IsFaultOf raw) }
+{
+    match repeated_name(alloc, &raw)? {
+        Some(name) => Err(Unsettled::Duplicate(name)),
+        None => settle_distinct(alloc, raw),
     }
 }

@@ -8,8 +8,8 @@ use Rattle.net_core.specs.declared.parts.NetId.{NetId}
 use Rattle.net_core.specs.WellFormed.{IsWellFormed}
 use Rattle.net_core.proofs.ClockLemmas.{ok_then}
 use Rattle.flat_settle.specs.Judged.{IsFirstClockOf, clocked_parts}
-use Rattle.flat_settle.proofs.settle.build.Goals as goal
-use Rattle.flat_settle.proofs.settle.build.Goals.{After-into_vec-3}
+use Rattle.flat_settle.proofs.settled.build.Goals as goal
+use Rattle.flat_settle.proofs.settled.build.Goals.{After-into_vec-3}
 
 is_first : (c : After-into_vec-3) → IsFirstClockOf c.args.kept c.first_clock-first.result
 is_first c = subst (λ (cells : List Cell). MatchOption (slice_get (filter_map (λ (cell : Cell). cell.clock) cells) 0) (c.first_clock-first.result ≡ c.args.kept.clock) (λ net. c.first_clock-first.result ≡ net)) c.as_slice.ensures c.first_clock-first.ensures
