@@ -13,3 +13,4 @@ pub mod LeftLemmas
 pub mod FormedLemmas
 pub mod NumberLemmas
 pub mod SeenLemmas
+pub mod RepeatLemmas
