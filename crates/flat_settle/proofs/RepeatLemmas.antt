@@ -1,19 +1,18 @@
 -- The first name in flat order that repeats.
-use Rattle.std.proofs.Common.{◌≡◌, ℕ, zero, suc, ◌+◌, ◌-◌, ◌^◌, ◌<◌, ◌≤◌, Bool, true, false, List, [], ◌∷◌, ◌++◌, map, take, drop, length, sum_by, slice_get, Option, Some, None, MatchOption, MatchBool, append_assoc, length-append, refl, ap, sym, ◌∙◌, subst, arith, inl, inr, ◌⊎◌}
+use Rattle.std.proofs.Common.{◌≡◌, ℕ, zero, suc, ◌+◌, ◌<◌, ◌≤◌, Bool, true, false, List, [], ◌∷◌, ◌++◌, map, take, drop, length, sum_by, slice_get, Option, Some, None, MatchOption, append_assoc, length-append, refl, ap, sym, ◌∙◌, subst, arith}
 use Rattle.std.specs.List.{flat_map, filter_map, cons_option}
 use Rattle.std.specs.Option.{option_map}
-use Rattle.std.proofs.lemmas.Bool.{cases_eq, cases_lt}
 use Rattle.std.proofs.lemmas.List.{length-map, take-append-le}
 use Rattle.std.proofs.lemmas.List.Sums.{sum_by-cons}
 use Rattle.std.proofs.lemmas.Option.{same_Some, slice_get_within, slice_get-map}
 use Rattle.net_core.specs.declared.parts.Group.{Group}
 use Rattle.net_core.specs.Netlist.{net_count}
 use Rattle.net_core.specs.WellFormed.{AllDiffer, Each, HasRange, IsIdentifier, bit_names, indexed_name}
-use Rattle.net_core.proofs.ListLemmas.{slice_get_left, slice_get_right, slice_get_append}
+use Rattle.net_core.proofs.ListLemmas.{slice_get_left, slice_get_right}
 use Rattle.flat_settle.specs.declared.raw.RawCell.{RawCell}
 use Rattle.flat_settle.specs.declared.raw.Raw.{Raw}
 use Rattle.flat_settle.specs.Raw.{IsUnfolded, raw_identifiers}
-use Rattle.flat_settle.specs.Refusals.{Named, Identifier, BitName, word, group_names, cell_names, flat_order, IsRepeat, IsFirstRepeat, HasRepeat}
+use Rattle.flat_settle.specs.Refusals.{Named, Identifier, BitName, word, group_names, cell_names, IsFirstRepeat, HasRepeat}
 use Rattle.flat_settle.specs.Naming.{named, AreSeen, IsAmong, Sees, RepeatsAfter}
 use Rattle.flat_settle.proofs.DistinctLemmas.{picked_append}
 

@@ -1,5 +1,5 @@
 -- Keys tell names in one way.
-use Rattle.std.proofs.Common.{◌≡◌, ◌≢◌, ℕ, zero, suc, ◌+◌, ◌*◌, ◌^◌, ◌<◌, ◌≤◌, Bool, true, false, not, ◌||◌, eqb, List, [], ◌∷◌, ◌++◌, length, slice_get, Some, MatchBool, decimal, append_assoc, refl, ap, sym, ◌∙◌, subst, arith, inl, inr, ◌⊎◌, true≢false, if◌then◌else◌, get_or}
+use Rattle.std.proofs.Common.{◌≡◌, ℕ, zero, suc, ◌+◌, ◌*◌, ◌^◌, ◌<◌, ◌≤◌, Bool, true, false, not, ◌||◌, eqb, List, [], ◌∷◌, ◌++◌, length, slice_get, Some, MatchBool, decimal, append_assoc, refl, ap, sym, ◌∙◌, subst, arith, inl, inr, ◌⊎◌, true≢false, if◌then◌else◌, get_or}
 use Rattle.std.specs.List.{list_any}
 use Rattle.std.specs.Str.{IsAscii}
 use Rattle.std.specs.Str.Parse.{digits_value}
@@ -11,9 +11,9 @@ use Rattle.std.proofs.lemmas.Option.{same_Some, slice_get_within, slice_get-get_
 use Rattle.net_core.specs.Netlist.{IsIn}
 use Rattle.net_core.specs.WellFormed.{AllDiffer, IsIdentifier, indexed_name}
 use Rattle.net_core.proofs.BitNameLemmas.{same_last, lacks_bracket}
-use Rattle.net_core.proofs.ListLemmas.{slice_get_append, slice_get_left}
+use Rattle.net_core.proofs.ListLemmas.{slice_get_append}
 use Rattle.flat_settle.specs.Refusals.{Named, Identifier, BitName, word}
-use Rattle.flat_settle.specs.Naming.{named, IsWhole, IsCoded, IsKeyOf, AreSeen, IsAmong, Sees, Grows}
+use Rattle.flat_settle.specs.Naming.{named, IsCoded, IsKeyOf, AreSeen, IsAmong, Sees, Grows}
 
 pub identifier_ascii : (name : List ℕ) → IsIdentifier name → IsAscii name
 identifier_ascii name spelled i = elim (cases_lt i (length name)) [

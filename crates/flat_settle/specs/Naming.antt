@@ -1,6 +1,5 @@
 -- Names that were met, by numbers.
-use Rattle.std.specs.Prelude.{◌≡◌, ◌≢◌, ℕ, zero, suc, ◌+◌, ◌*◌, ◌-◌, ◌^◌, ◌<◌, ◌≤◌, Bool, true, false, List, [], ◌∷◌, ◌++◌, map, take, length, slice_get, Some, MatchBool}
-
+use Rattle.std.specs.Prelude.{◌≡◌, ◌≢◌, ℕ, zero, suc, ◌+◌, ◌*◌, ◌^◌, ◌<◌, ◌≤◌, Bool, List, [], ◌∷◌, ◌++◌, take, length, slice_get, Some, MatchBool}
 use Rattle.net_core.specs.WellFormed.{AllDiffer, indexed_name}
 use Rattle.flat_settle.specs.Refusals.{Named, Identifier, BitName, word}
 

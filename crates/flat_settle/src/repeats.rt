@@ -90,11 +90,7 @@ fn see_group(alloc: Global, seen: &mut Seen, group: &Group) -> Result<Option<Nam
 }
 
 // Meets the groups, from nothing on.
-fn see_groups(
-    alloc: Global,
-    seen: &mut Seen,
-    groups: &[Group],
-) -> Result<Option<Name>, NoMemory>
+fn see_groups(alloc: Global, seen: &mut Seen, groups: &[Group]) -> Result<Option<Name>, NoMemory>
     requires start { AreSeen seen.old.fronts seen.old.keys.keys [] }
     requires ranges { Each HasRange groups.now }
     requires spelled { Each (λ (group : GroupOf). IsIdentifier group.name) groups.now }
@@ -129,11 +125,7 @@ fn see_cell(alloc: Global, seen: &mut Seen, cell: &RawCell) -> Result<Option<Nam
 }
 
 // Meets the cells.
-fn see_cells(
-    alloc: Global,
-    seen: &mut Seen,
-    cells: &[RawCell],
-) -> Result<Option<Name>, NoMemory>
+fn see_cells(alloc: Global, seen: &mut Seen, cells: &[RawCell]) -> Result<Option<Name>, NoMemory>
     requires { length seen.old.fronts + length cells.now < 2 ^ 30 }
     ensures { IfOk result (λ found. (names : List Named) → AreSeen seen.old.fronts seen.old.keys.keys names → MatchOption found (AreSeen seen.new.fronts seen.new.keys.keys (names ++ cell_names cells.now)) (λ name. RepeatsAfter names (cell_names cells.now) name)) }
 {

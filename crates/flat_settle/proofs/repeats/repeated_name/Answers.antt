@@ -1,4 +1,4 @@
-use Rattle.std.proofs.Common.{◌≡◌, ◌++◌, ◌<◌, ◌^◌, [], List, length, slice_get, ap, sym, ◌∙◌, subst, arith}
+use Rattle.std.proofs.Common.{◌++◌, [], List, length, ap, sym, subst, arith}
 use Rattle.std.specs.List.{flat_map}
 use Rattle.net_core.specs.declared.parts.Group.{Group}
 use Rattle.net_core.specs.WellFormed.{AllDiffer, Each, HasRange, IsIdentifier}
@@ -44,5 +44,5 @@ returns c = ok_then c.see_cells.result _ _ (λ found told. (
     match_as found _ _ _ _
     (λ all. no_repeat (flat_order c.args.raw.now) (subst (λ (cells : List RawCell). AllDiffer (names ++ cell_names cells)) c.as_slice-in-None.ensures all.differ))
     (λ name repeats. first_repeat (flat_order c.args.raw.now) name
-      (repeats_shift [] names (cell_names c.args.raw.now.cells) name (subst (λ (cells : List RawCell). RepeatsAfter names (cell_names cells) name) c.as_slice-in-None.ensures repeats)))
+    (repeats_shift [] names (cell_names c.args.raw.now.cells) name (subst (λ (cells : List RawCell). RepeatsAfter names (cell_names cells) name) c.as_slice-in-None.ensures repeats)))
     (told names groups_met))) c.see_cells.ensures

@@ -1,5 +1,5 @@
-use Rattle.std.proofs.Common.{◌≡◌, ◌+◌, ◌∷◌, [], List, map, ap, sym, ◌∙◌, subst, arith}
-use Rattle.flat_settle.specs.Refusals.{Named, BitName}
+use Rattle.std.proofs.Common.{[], List, map, ap, sym, ◌∙◌, subst}
+use Rattle.flat_settle.specs.Refusals.{BitName}
 use Rattle.flat_settle.specs.Naming.{IsAmong}
 use Rattle.flat_settle.proofs.NameLemmas.{vector_width, scalar_names}
 use Rattle.flat_settle.proofs.RepeatLemmas.{sees_true, repeats_first}

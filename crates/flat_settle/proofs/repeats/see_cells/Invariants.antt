@@ -1,4 +1,4 @@
-use Rattle.std.proofs.Common.{ℕ, ◌+◌, ◌≤◌, List, ◌++◌, take, length}
+use Rattle.std.proofs.Common.{◌+◌, ◌≤◌, List, ◌++◌, take, length}
 use Rattle.flat_settle.specs.Refusals.{Named, cell_names}
 use Rattle.flat_settle.specs.Naming.{AreSeen}
 use Rattle.flat_settle.proofs.repeats.see_cells.Given as goal

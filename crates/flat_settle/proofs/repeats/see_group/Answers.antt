@@ -1,8 +1,8 @@
-use Rattle.std.proofs.Common.{◌≡◌, ℕ, ◌++◌, ◌∷◌, [], List, map, append_assoc, refl, ap, sym, ◌∙◌, subst}
+use Rattle.std.proofs.Common.{ℕ, ◌++◌, ◌∷◌, [], List, map, append_assoc, refl, sym, subst}
 use Rattle.net_core.specs.WellFormed.{bit_names}
 use Rattle.net_core.proofs.ClockLemmas.{ok_then}
 use Rattle.flat_settle.specs.Refusals.{Named, Identifier, BitName, group_names}
-use Rattle.flat_settle.specs.Naming.{IsAmong, AreSeen, RepeatsAfter}
+use Rattle.flat_settle.specs.Naming.{IsAmong, AreSeen}
 use Rattle.flat_settle.proofs.RepeatLemmas.{sees_true, sees_false, repeats_first, repeats_shift, match_as}
 use Rattle.flat_settle.proofs.repeats.see_group.Goals as goal
 

@@ -1,5 +1,4 @@
-use Rattle.std.proofs.Common.{◌≡◌, ℕ, List, slice_get, Some, ap, sym, ◌∙◌, subst}
-use Rattle.flat_settle.specs.Naming.{Grows}
+use Rattle.std.proofs.Common.{ℕ, List, slice_get, ap, ◌∙◌}
 use Rattle.flat_settle.proofs.NumberLemmas.{number_at, numbers_grow, numbers_differ}
 use Rattle.flat_settle.proofs.numbers.Numbers.number.Goals as goal
 
