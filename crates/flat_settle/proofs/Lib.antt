@@ -14,3 +14,4 @@ pub mod FormedLemmas
 pub mod NumberLemmas
 pub mod SeenLemmas
 pub mod RepeatLemmas
+pub mod SampleLemmas

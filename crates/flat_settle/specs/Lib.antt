@@ -4,3 +4,4 @@ pub mod Refusals
 pub mod Tables
 pub mod Judged
 pub mod Naming
+pub mod Sample

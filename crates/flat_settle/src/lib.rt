@@ -15,6 +15,8 @@ mod repeats;
 mod seen;
 mod settled;
 mod steps;
+#[cfg(test)]
+mod tests;
 
 pub use raw::{Raw, RawCell, Unsettled};
 pub use settled::settle;
