@@ -11,6 +11,7 @@ mod numbers;
 mod parts;
 mod tables;
 
+pub use bit_name::split_bit_name;
 pub use flat::Flat;
 pub use kind::{CellKind, GateCode};
 pub use machine::Machine;

@@ -1,0 +1,17 @@
+pub mod AppendLemmas
+pub mod RowLemmas
+pub mod StepLemmas
+pub mod PortLemmas
+pub mod DrivenLemmas
+pub mod MarkedLemmas
+pub mod KeepLemmas
+pub mod OwnerLemmas
+pub mod JudgeLemmas
+pub mod NameLemmas
+pub mod DistinctLemmas
+pub mod LeftLemmas
+pub mod FormedLemmas
+pub mod NumberLemmas
+pub mod SeenLemmas
+pub mod RepeatLemmas
+pub mod SampleLemmas

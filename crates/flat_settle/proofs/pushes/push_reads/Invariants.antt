@@ -1,0 +1,6 @@
+use Rattle.net_core.proofs.MarkLemmas.{Below}
+use Rattle.flat_settle.specs.Tables.{Appends, HasAt, ReadHas}
+use Rattle.flat_settle.proofs.pushes.push_reads.Given as goal
+
+abbrev pub invariant-loop-cell : goal.invariant-loop-cell
+invariant-loop-cell l = Appends l.initial.list l.list (Below (HasAt (ReadHas l.all) l.cells) l.cell-index)

@@ -1,0 +1,155 @@
+//! The first name in flat order that an earlier one equals.
+ghost use Rattle.std.specs.Prelude.{◌≡◌, ℕ, ◌+◌, ◌-◌, ◌^◌, ◌<◌, ◌≤◌, List, [], ◌∷◌, ◌++◌, map, flat_map, IfOk, OnOk, MatchOption, MatchBool, length, Some};
+ghost use Rattle.net_core.specs.WellFormed.{Each, HasRange, IsIdentifier, bit_names, range_indices, indexed_name};
+ghost use Rattle.net_core.specs.declared.parts.Group.{Group as GroupOf};
+ghost use Rattle.flat_settle.specs.Raw.{IsUnfolded};
+ghost use Rattle.flat_settle.specs.Refusals.{Named, Identifier, BitName, group_names, cell_names, flat_order, HasRepeat, IsFirstRepeat};
+ghost use Rattle.flat_settle.specs.Naming.{AreSeen, IsAmong, Sees, RepeatsAfter};
+
+use crate::bit_name::{index_at, indexed};
+use crate::numbers::Numbers;
+use crate::raw::{Raw, RawCell};
+use crate::seen::{Seen, see, split};
+use ila_base::{Name, NoMemory};
+use indexmap::IndexSet;
+use net_core::Group;
+use std::alloc::Global;
+
+// Meets the bit of a scalar, whose name may have the form of a vector's bit.
+fn see_scalar(alloc: Global, seen: &mut Seen, name: &[u8]) -> Result<bool, NoMemory>
+    requires few { length seen.old.fronts < 2 ^ 30 }
+    requires spelled { IsIdentifier name.now }
+    ensures { IfOk result (λ there. (names : List Named) → AreSeen seen.old.fronts seen.old.keys.keys names → Sees seen.new.fronts seen.new.keys.keys names (BitName name.now) there) }
+{
+    match split(name) {
+        Some((front, index)) => see(alloc, seen, front, index as u64 + 2),
+        None => see(alloc, seen, name, 1),
+    }
+}
+
+// Meets the bits of a vector, and answers the name of the first that was met before.
+fn see_vector(
+    alloc: Global,
+    seen: &mut Seen,
+    front: &[u8],
+    left: u32,
+    right: u32,
+    count: usize,
+) -> Result<Option<Name>, NoMemory>
+    requires small { (left ≤ 1048575) × (right ≤ 1048575) }
+    requires count { count ≡ (left - right) + (right - left) + 1 }
+    requires few { length seen.old.fronts + count < 2 ^ 30 }
+    ensures { IfOk result (λ found. (names : List Named) → AreSeen seen.old.fronts seen.old.keys.keys names → MatchOption found (AreSeen seen.new.fronts seen.new.keys.keys (names ++ map BitName (map (indexed_name front.now) (range_indices left right)))) (λ name. RepeatsAfter names (map BitName (map (indexed_name front.now) (range_indices left right))) name)) }
+{
+    for place in 0..count {
+        let index = index_at(left, right, place);
+        if see(alloc, seen, front, index as u64 + 2)? {
+            return Ok(Some(indexed(alloc, front, index)?));
+        }
+    }
+    Ok(None)
+}
+
+// Meets the bits of a group.
+fn see_bits(alloc: Global, seen: &mut Seen, group: &Group) -> Result<Option<Name>, NoMemory>
+    requires range { HasRange group.now }
+    requires spelled { IsIdentifier group.now.name }
+    requires few { length seen.old.fronts + length group.now.bits < 2 ^ 30 }
+    ensures { IfOk result (λ found. (names : List Named) → AreSeen seen.old.fronts seen.old.keys.keys names → MatchOption found (AreSeen seen.new.fronts seen.new.keys.keys (names ++ map BitName (bit_names group.now))) (λ name. RepeatsAfter names (map BitName (bit_names group.now)) name)) }
+{
+    match group.range {
+        Some((left, right)) => see_vector(
+            alloc,
+            seen,
+            group.name.bytes(),
+            left,
+            right,
+            group.bits.len(),
+        ),
+        None => {
+            if see_scalar(alloc, seen, group.name.bytes())? {
+                Ok(Some(group.name.copied(alloc)?))
+            } else {
+                Ok(None)
+            }
+        }
+    }
+}
+
+// Meets a group's identifier and then its bits.
+fn see_group(alloc: Global, seen: &mut Seen, group: &Group) -> Result<Option<Name>, NoMemory>
+    requires range { HasRange group.now }
+    requires spelled { IsIdentifier group.now.name }
+    requires few { length seen.old.fronts + 1 + length group.now.bits < 2 ^ 30 }
+    ensures { IfOk result (λ found. (names : List Named) → AreSeen seen.old.fronts seen.old.keys.keys names → MatchOption found (AreSeen seen.new.fronts seen.new.keys.keys (names ++ group_names group.now)) (λ name. RepeatsAfter names (group_names group.now) name)) }
+{
+    if see(alloc, seen, group.name.bytes(), 0)? {
+        return Ok(Some(group.name.copied(alloc)?));
+    }
+    see_bits(alloc, seen, group)
+}
+
+// Meets the groups, from nothing on.
+fn see_groups(alloc: Global, seen: &mut Seen, groups: &[Group]) -> Result<Option<Name>, NoMemory>
+    requires start { AreSeen seen.old.fronts seen.old.keys.keys [] }
+    requires ranges { Each HasRange groups.now }
+    requires spelled { Each (λ (group : GroupOf). IsIdentifier group.name) groups.now }
+    requires few { length (flat_map group_names groups.now) < 2 ^ 30 }
+    ensures { IfOk result (λ found. MatchOption found (AreSeen seen.new.fronts seen.new.keys.keys (flat_map group_names groups.now)) (λ name. RepeatsAfter [] (flat_map group_names groups.now) name)) }
+{
+    for group in groups {
+        match see_group(alloc, seen, group)? {
+            Some(name) => return Ok(Some(name)),
+            None => {}
+        }
+    }
+    Ok(None)
+}
+
+// Meets a cell's identifier, if it has one.
+fn see_cell(alloc: Global, seen: &mut Seen, cell: &RawCell) -> Result<Option<Name>, NoMemory>
+    requires { length seen.old.fronts < 2 ^ 30 }
+    ensures few { OnOk result (length seen.new.fronts ≤ length seen.old.fronts + 1) }
+    ensures sees { IfOk result (λ found. (names : List Named) → AreSeen seen.old.fronts seen.old.keys.keys names → MatchOption found (AreSeen seen.new.fronts seen.new.keys.keys (names ++ cell_names (cell.now ∷ []))) (λ name. (cell.now.name ≡ Some name) × IsAmong names (Identifier name))) }
+{
+    match &cell.name {
+        Some(name) => {
+            if see(alloc, seen, name.bytes(), 0)? {
+                Ok(Some(name.copied(alloc)?))
+            } else {
+                Ok(None)
+            }
+        }
+        None => Ok(None),
+    }
+}
+
+// Meets the cells.
+fn see_cells(alloc: Global, seen: &mut Seen, cells: &[RawCell]) -> Result<Option<Name>, NoMemory>
+    requires { length seen.old.fronts + length cells.now < 2 ^ 30 }
+    ensures { IfOk result (λ found. (names : List Named) → AreSeen seen.old.fronts seen.old.keys.keys names → MatchOption found (AreSeen seen.new.fronts seen.new.keys.keys (names ++ cell_names cells.now)) (λ name. RepeatsAfter names (cell_names cells.now) name)) }
+{
+    for cell in cells {
+        match see_cell(alloc, seen, cell)? {
+            Some(name) => return Ok(Some(name)),
+            None => {}
+        }
+    }
+    Ok(None)
+}
+
+/// The first name in flat order that an earlier one equals. It takes time linear in the bytes of the
+/// names and in the net bits.
+pub fn repeated_name(alloc: Global, raw: &Raw) -> Result<Option<Name>, NoMemory>
+    requires { IsUnfolded raw.now }
+    ensures { IfOk result (λ found. MatchOption found (¬ HasRepeat (flat_order raw.now)) (λ name. IsFirstRepeat (flat_order raw.now) name)) }
+{
+    let mut seen = Seen {
+        fronts: Numbers::new(alloc),
+        keys: IndexSet::new(alloc),
+    };
+    match see_groups(alloc, &mut seen, raw.groups.as_slice())? {
+        Some(name) => Ok(Some(name)),
+        None => see_cells(alloc, &mut seen, raw.cells.as_slice()),
+    }
+}
