@@ -1,4 +1,4 @@
-use Rattle.std.proofs.Common.{◌≡◌, ℕ, ◌≤◌, ◌<◌, ◌^◌, List, ◌++◌, map, take, slice_get, Some}
+use Rattle.std.proofs.Common.{◌≡◌, ◌≤◌, ◌<◌, ◌^◌, List, ◌++◌, map, take, slice_get, Some}
 use Rattle.net_core.specs.WellFormed.{range_indices, indexed_name}
 use Rattle.flat_settle.specs.Refusals.{Named, BitName}
 use Rattle.flat_settle.specs.Naming.{AreSeen}
