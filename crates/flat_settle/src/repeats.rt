@@ -9,7 +9,7 @@ ghost use Rattle.flat_settle.specs.Naming.{AreSeen, IsAmong, Sees, RepeatsAfter}
 use crate::bit_name::{index_at, indexed};
 use crate::numbers::Numbers;
 use crate::raw::{Raw, RawCell};
-use crate::seen::{Seen, see, split};
+use crate::seen::{Seen, see, see_first, see_next, split};
 use ila_base::{Name, NoMemory};
 use indexmap::IndexSet;
 use net_core::Group;
@@ -27,7 +27,8 @@ fn see_scalar(alloc: Global, seen: &mut Seen, name: &[u8]) -> Result<bool, NoMem
     }
 }
 
-// Meets the bits of a vector, and answers the name of the first that was met before.
+// Meets the bits of a vector, and answers the name of the first that was met before. The vector's name
+// is numbered once.
 fn see_vector(
     alloc: Global,
     seen: &mut Seen,
@@ -41,9 +42,14 @@ fn see_vector(
     requires few { length seen.old.fronts + count < 2 ^ 30 }
     ensures { IfOk result (λ found. (names : List Named) → AreSeen seen.old.fronts seen.old.keys.keys names → MatchOption found (AreSeen seen.new.fronts seen.new.keys.keys (names ++ map BitName (map (indexed_name front.now) (range_indices left right)))) (λ name. RepeatsAfter names (map BitName (map (indexed_name front.now) (range_indices left right))) name)) }
 {
-    for place in 0..count {
+    let first = index_at(left, right, 0);
+    let (there, number) = see_first(alloc, seen, front, first as u64 + 2)?;
+    if there {
+        return Ok(Some(indexed(alloc, front, first)?));
+    }
+    for place in 1..count {
         let index = index_at(left, right, place);
-        if see(alloc, seen, front, index as u64 + 2)? {
+        if see_next(seen, number, front, index as u64 + 2)? {
             return Ok(Some(indexed(alloc, front, index)?));
         }
     }

@@ -27,6 +27,36 @@ fn add_key(keys: &mut IndexSet<u64>, key: u64) -> Result<bool, NoMemory>
     Ok(!added)
 }
 
+/// Meets a name, and answers whether it was met before, with the number of its front.
+pub fn see_first(
+    alloc: Global,
+    seen: &mut Seen,
+    front: &[u8],
+    code: u64,
+) -> Result<(bool, usize), NoMemory>
+    requires few { length seen.old.fronts < 2 ^ 30 }
+    requires coded { IsCoded front.now code }
+    ensures few { OnOk result (length seen.new.fronts ≤ length seen.old.fronts + 1) }
+    ensures at { IfOk result (λ met. slice_get seen.new.fronts met.1 ≡ Some front.now) }
+    ensures sees { IfOk result (λ met. (names : List Named) → AreSeen seen.old.fronts seen.old.keys.keys names → Sees seen.new.fronts seen.new.keys.keys names (named front.now code) met.0) }
+{
+    let number = seen.fronts.number(alloc, front)?;
+    let there = add_key(&mut seen.keys, number as u64 * 8_589_934_592 + code)?;
+    Ok((there, number))
+}
+
+/// Meets a name whose front has this number, and answers whether it was met before.
+pub fn see_next(seen: &mut Seen, number: usize, front: &[u8], code: u64) -> Result<bool, NoMemory>
+    requires at { slice_get seen.old.fronts number ≡ Some front.now }
+    requires few { number < 2 ^ 30 }
+    requires coded { IsCoded front.now code }
+    ensures same { seen.new.fronts ≡ seen.old.fronts }
+    ensures sees { IfOk result (λ there. (names : List Named) → AreSeen seen.old.fronts seen.old.keys.keys names → Sees seen.new.fronts seen.new.keys.keys names (named front.now code) there) }
+{
+    let _name = front;
+    add_key(&mut seen.keys, number as u64 * 8_589_934_592 + code)
+}
+
 /// Meets a name, and answers whether it was met before.
 pub fn see(alloc: Global, seen: &mut Seen, front: &[u8], code: u64) -> Result<bool, NoMemory>
     requires few { length seen.old.fronts < 2 ^ 30 }
@@ -34,8 +64,8 @@ pub fn see(alloc: Global, seen: &mut Seen, front: &[u8], code: u64) -> Result<bo
     ensures few { OnOk result (length seen.new.fronts ≤ length seen.old.fronts + 1) }
     ensures sees { IfOk result (λ there. (names : List Named) → AreSeen seen.old.fronts seen.old.keys.keys names → Sees seen.new.fronts seen.new.keys.keys names (named front.now code) there) }
 {
-    let number = seen.fronts.number(alloc, front)?;
-    add_key(&mut seen.keys, number as u64 * 8_589_934_592 + code)
+    let (there, _number) = see_first(alloc, seen, front, code)?;
+    Ok(there)
 }
 
 /// The two parts of an identifier of the form `front[index]`.

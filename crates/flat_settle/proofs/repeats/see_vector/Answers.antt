@@ -1,47 +1,72 @@
-use Rattle.std.proofs.Common.{◌≡◌, ◌+◌, ◌++◌, ◌∷◌, [], List, map, take, length, slice_get, Some, append_assoc, ap, sym, ◌∙◌, subst, arith, take_all}
+use Rattle.std.proofs.Common.{◌≡◌, ℕ, ◌+◌, ◌++◌, ◌∷◌, [], List, map, take, drop, length, slice_get, Some, append_assoc, ap, sym, ◌∙◌, subst, arith, take_all}
 use Rattle.std.specs.Option.{option_map}
 use Rattle.std.proofs.lemmas.List.{length-map}
-use Rattle.std.proofs.lemmas.Option.{slice_get-map}
+use Rattle.std.proofs.lemmas.Option.{slice_get-map, slice_get_within}
 use Rattle.net_core.specs.WellFormed.{range_indices, indexed_name}
 use Rattle.flat_settle.specs.Refusals.{Named, BitName}
 use Rattle.flat_settle.specs.Naming.{named, AreSeen, IsAmong}
 use Rattle.flat_settle.proofs.NameLemmas.{range_width}
-use Rattle.flat_settle.proofs.RepeatLemmas.{sees_true, sees_false, named_bit, one_more_taken}
+use Rattle.flat_settle.proofs.RepeatLemmas.{sees_true, sees_false, named_bit, one_more_taken, split_item, repeats_first}
 use Rattle.flat_settle.proofs.repeats.see_vector.Goals as goal
-use Rattle.flat_settle.proofs.repeats.see_vector.Goals.{After-index_at-index}
 
-at_place : (c : After-index_at-index) → slice_get (map BitName (map (indexed_name c.args.front.now) (range_indices c.args.left c.args.right))) c.loop-place.place ≡ Some (BitName (indexed_name c.args.front.now c.index_at-index.result))
-at_place c =
-    slice_get-map BitName (map (indexed_name c.args.front.now) (range_indices c.args.left c.args.right)) c.loop-place.place
-    ∙ ap (option_map BitName) (slice_get-map (indexed_name c.args.front.now) (range_indices c.args.left c.args.right) c.loop-place.place ∙ ap (option_map (indexed_name c.args.front.now)) c.index_at-index.ensures)
+at_place : (front : List ℕ) (left right place index : ℕ) → slice_get (range_indices left right) place ≡ Some index → slice_get (map BitName (map (indexed_name front) (range_indices left right))) place ≡ Some (BitName (indexed_name front index))
+at_place front left right place index at =
+    slice_get-map BitName (map (indexed_name front) (range_indices left right)) place
+    ∙ ap (option_map BitName) (slice_get-map (indexed_name front) (range_indices left right) place ∙ ap (option_map (indexed_name front)) at)
+
+pub returns-then-there : goal.returns-then-there
+returns-then-there c = λ names seen. (
+    let more = map BitName (map (indexed_name c.args.front.now) (range_indices c.args.left c.args.right)) in
+    let one = BitName (indexed_name c.args.front.now c.index_at-first.result) in
+    let among = sees_true c.see_first.new.seen.fronts c.see_first.new.seen.keys.keys names (named c.args.front.now (c.index_at-first.result + 2)) c.in_ok-there.there c.if-there.true (c.in_ok-there.ensures.sees names seen) in
+    repeats_first names more one c.in_ok-indexed.field-0 (drop 1 more) (split_item more 0 one (at_place c.args.front.now c.args.left c.args.right 0 c.index_at-first.result c.index_at-first.ensures)) (sym c.in_ok-indexed.ensures)
+    (subst (λ (one : Named). IsAmong names one) (named_bit c.args.front.now c.index_at-first.result) among) seen.differ)
+
+pub loop-place-init : goal.loop-place-init
+loop-place-init c =
+    let number = slice_get_within c.see_first.new.seen.fronts c.in_ok-there.number c.args.front.now c.in_ok-there.ensures.at in (
+      c.in_ok-there.ensures.at,
+      omega (arith, number, c.in_ok-there.ensures.few, c.requires.few, c.requires.count),
+      omega (arith, c.requires.count),
+      λ names seen. (
+          let more = map BitName (map (indexed_name c.args.front.now) (range_indices c.args.left c.args.right)) in
+          let one = BitName (indexed_name c.args.front.now c.index_at-first.result) in
+          let met = sees_false c.see_first.new.seen.fronts c.see_first.new.seen.keys.keys names (named c.args.front.now (c.index_at-first.result + 2)) c.in_ok-there.there c.if-there.false (c.in_ok-there.ensures.sees names seen) in
+          subst (λ (zs : List Named). AreSeen c.see_first.new.seen.fronts c.see_first.new.seen.keys.keys (names ++ zs))
+          (ap (λ (one : Named). one ∷ []) (named_bit c.args.front.now c.index_at-first.result)
+          ∙ sym (one_more_taken more 0 one (at_place c.args.front.now c.args.left c.args.right 0 c.index_at-first.result c.index_at-first.ensures))) met),
+    )
 
 pub returns-then-branch : goal.returns-then-branch
 returns-then-branch c = λ names seen. (
     let more = map BitName (map (indexed_name c.args.front.now) (range_indices c.args.left c.args.right)) in
-    let before = c.loop-place.invariant.1 names seen in
-    let among = sees_true c.see.new.seen.fronts c.see.new.seen.keys.keys (names ++ take c.loop-place.place more) (named c.args.front.now (c.index_at-index.result + 2)) c.in_ok-see.field-0 c.if-branch.true
-    (c.in_ok-see.ensures.sees (names ++ take c.loop-place.place more) before) in
+    let before = c.loop-place.invariant.3 names seen in
+    let among = sees_true c.see_next.new.seen.fronts c.see_next.new.seen.keys.keys (names ++ take c.loop-place.place more) (named c.args.front.now (c.index_at-index.result + 2)) c.in_ok-see_next.field-0 c.if-branch.true
+    (c.in_ok-see_next.ensures.sees (names ++ take c.loop-place.place more) before) in
     record {
       place = c.loop-place.place;
       one = BitName (indexed_name c.args.front.now c.index_at-index.result);
-      at = at_place (goal.at.returns-then-branch c).After-index_at-index;
-      called = sym c.in_ok-indexed.ensures;
+      at = at_place c.args.front.now c.args.left c.args.right c.loop-place.place c.index_at-index.result c.index_at-index.ensures;
+      called = sym c.in_ok-indexed-2.ensures;
       earlier = subst (λ (one : Named). IsAmong (names ++ take c.loop-place.place more) one) (named_bit c.args.front.now c.index_at-index.result) among;
       differ = before.differ;
     })
 
 pub loop-place-preserved : goal.loop-place-preserved
 loop-place-preserved c = (
-  omega (arith, c.in_ok-see.ensures.few, c.loop-place.invariant.0),
+  ap (λ (fronts : List (List ℕ)). slice_get fronts c.in_ok-there.number) c.see_next.ensures.same ∙ c.loop-place.invariant.0,
+  c.loop-place.invariant.1,
+  omega (arith, c.loop-place-test.true),
   λ names seen. (
       let more = map BitName (map (indexed_name c.args.front.now) (range_indices c.args.left c.args.right)) in
-      let before = c.loop-place.invariant.1 names seen in
-      let after = sees_false c.see.new.seen.fronts c.see.new.seen.keys.keys (names ++ take c.loop-place.place more) (named c.args.front.now (c.index_at-index.result + 2)) c.in_ok-see.field-0 c.if-branch.false
-      (c.in_ok-see.ensures.sees (names ++ take c.loop-place.place more) before) in
-      subst (λ (zs : List Named). AreSeen c.see.new.seen.fronts c.see.new.seen.keys.keys zs)
+      let one = BitName (indexed_name c.args.front.now c.index_at-index.result) in
+      let before = c.loop-place.invariant.3 names seen in
+      let after = sees_false c.see_next.new.seen.fronts c.see_next.new.seen.keys.keys (names ++ take c.loop-place.place more) (named c.args.front.now (c.index_at-index.result + 2)) c.in_ok-see_next.field-0 c.if-branch.false
+      (c.in_ok-see_next.ensures.sees (names ++ take c.loop-place.place more) before) in
+      subst (λ (zs : List Named). AreSeen c.see_next.new.seen.fronts c.see_next.new.seen.keys.keys zs)
       (append_assoc names (take c.loop-place.place more) (named c.args.front.now (c.index_at-index.result + 2) ∷ [])
       ∙ ap (λ (one : Named). names ++ (take c.loop-place.place more ++ one ∷ [])) (named_bit c.args.front.now c.index_at-index.result)
-      ∙ ap (λ zs. names ++ zs) (sym (one_more_taken more c.loop-place.place (BitName (indexed_name c.args.front.now c.index_at-index.result)) (at_place (goal.at.loop-place-preserved c).After-index_at-index))))
+      ∙ ap (λ zs. names ++ zs) (sym (one_more_taken more c.loop-place.place one (at_place c.args.front.now c.args.left c.args.right c.loop-place.place c.index_at-index.result c.index_at-index.ensures))))
       after),
 )
 
@@ -50,4 +75,4 @@ returns c = λ names seen. (
     let indices = range_indices c.args.left c.args.right in
     let more = map BitName (map (indexed_name c.args.front.now) indices) in
     let size : length more ≡ c.args.count = length-map (map (indexed_name c.args.front.now) indices) BitName ∙ length-map indices (indexed_name c.args.front.now) ∙ range_width c.args.left c.args.right ∙ sym c.requires.count in
-    subst (λ (zs : List Named). AreSeen c.loop-place.seen.fronts c.loop-place.seen.keys.keys (names ++ zs)) (take_all c.loop-place.place more (omega (arith, size, c.loop-place-test.false))) (c.loop-place.invariant.1 names seen))
+    subst (λ (zs : List Named). AreSeen c.loop-place.seen.fronts c.loop-place.seen.keys.keys (names ++ zs)) (take_all c.loop-place.place more (omega (arith, size, c.loop-place-test.false))) (c.loop-place.invariant.3 names seen))
