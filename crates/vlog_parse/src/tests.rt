@@ -205,15 +205,16 @@ fn declares_ports_in_order(rt: HostRuntime) -> Result<(), Fail> {
     Ok(())
 }
 
+const ITEMS: &str = "module m (a, b);\n\
+    input a;\n\
+    assign b = {a, w[1], w[3:2], 4'b1010}, c = a;\n\
+    nand (b, a), g (b, a);\n\
+    LUT1 #(.INIT(2'h1), .N(7), .S(\"x\")) u (.I(a), .O()), v (a, b), w ();\n\
+    endmodule";
+
 #[test]
-fn reads_each_kind_of_item(rt: HostRuntime) -> Result<(), Fail> {
-    let text = "module m (a, b);\n\
-        input a;\n\
-        assign b = {a, w[1], w[3:2], 4'b1010}, c = a;\n\
-        nand (b, a), g (b, a);\n\
-        LUT1 #(.INIT(2'h1), .N(7), .S(\"x\")) u (.I(a), .O()), v (a, b), w ();\n\
-        endmodule";
-    let items = items_of(&rt, text)?;
+fn reads_assignments_and_gates(rt: HostRuntime) -> Result<(), Fail> {
+    let items = items_of(&rt, ITEMS)?;
     assert_eq!(rt; items.len(), 8);
     match items.get(1) {
         Some(Item::Assign(Expr::Whole(_, _), Expr::Concat(parts))) => {
@@ -235,6 +236,12 @@ fn reads_each_kind_of_item(rt: HostRuntime) -> Result<(), Fail> {
         }
         _ => panic!(rt; "no gates"),
     }
+    Ok(())
+}
+
+#[test]
+fn reads_instances(rt: HostRuntime) -> Result<(), Fail> {
+    let items = items_of(&rt, ITEMS)?;
     match (items.get(5), items.get(6), items.get(7)) {
         (Some(Item::Inst(u)), Some(Item::Inst(v)), Some(Item::Inst(w))) => {
             assert_eq!(rt; v.params.len(), 3);
