@@ -1,9 +1,9 @@
 -- A loop that reads a repetition: what it has and what is left are one reading.
-use Rattle.std.proofs.Common.{◌≡◌, refl, sym, ◌∙◌, ap, ◌<◌, ◌≤◌, Bool, true, false, cond, List, [], ◌∷◌, ◌++◌, length, arith, append_assoc, append-nil}
+use Rattle.std.proofs.Common.{◌≡◌, refl, sym, ◌∙◌, ap, ◌<◌, ◌≤◌, Bool, true, false, cond, List, [], ◌∷◌, ◌++◌, length, arith, append_assoc}
 use Rattle.grammar.specs.Rule.{Outcome, Rule, looks, continue, repeat}
 use Rattle.grammar.specs.Rule.Outcome.{Took, Stuck}
 use Rattle.grammar.specs.Outcomes.{not_both_ways}
-use Rattle.grammar.specs.RepeatLaws.{Shrinks, with_first, repeat_takes, repeat_stops, repeat_ends}
+use Rattle.grammar.specs.RepeatLaws.{Shrinks, with_first, repeat_takes}
 use Rattle.grammar.specs.ListLaws.{separated}
 use Rattle.grammar.specs.NestLaws.{Keeps}
 use Rattle.vlog_parse.specs.declared.tree.Item.{Item}
@@ -23,16 +23,6 @@ pub loop_takes : {A : Type 0} (passes : Lexeme → Bool) (rule : Rule Lexeme A) 
     → behind done ((repeat passes rule).read ts) ≡ behind (done ++ x ∷ []) ((repeat passes rule).read rest)
 loop_takes passes rule s done ts rest x test e =
     ap (behind done) (repeat_takes passes rule s ts rest x test e) ∙ behind-with_first done x ((repeat passes rule).read rest)
-
--- one more is refused
-pub loop_stops : {A : Type 0} (passes : Lexeme → Bool) (rule : Rule Lexeme A) → Shrinks rule → (done : List A) (ts rest : List Lexeme) → looks passes ts ≡ true → rule.read ts ≡ Stuck rest
-    → behind done ((repeat passes rule).read ts) ≡ Stuck rest
-loop_stops passes rule s done ts rest test e = ap (behind done) (repeat_stops passes rule s ts rest test e)
-
--- there is no more
-pub loop_ends : {A : Type 0} (passes : Lexeme → Bool) (rule : Rule Lexeme A) → Shrinks rule → (done : List A) (ts : List Lexeme) → looks passes ts ≡ false
-    → behind done ((repeat passes rule).read ts) ≡ Took done ts
-loop_ends passes rule s done ts test = ap (behind done) (repeat_ends passes rule s ts test) ∙ ap (λ ys. Took ys ts) (append-nil done)
 
 -- a separator and then a part take at least a token
 pub separated_shrinks : {A : Type 0} (separates : Lexeme → Bool) (rule : Rule Lexeme A) → Keeps rule → Shrinks (separated separates rule)

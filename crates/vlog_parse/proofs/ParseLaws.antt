@@ -1,5 +1,5 @@
 -- From what the parser reads to what the text is.
-use Rattle.std.proofs.Common.{◌≡◌, refl, sym, ◌∙◌, ap, subst, ℕ, suc, ◌≤◌, Bool, true, false, cond, List, [], ◌∷◌, ◌++◌, length, arith, Option, Some, None, Err, All, find}
+use Rattle.std.proofs.Common.{◌≡◌, refl, sym, ◌∙◌, ap, subst, ℕ, suc, Bool, true, false, cond, List, [], ◌∷◌, ◌++◌, length, arith, Option, Some, None, Err, All, find}
 use Rattle.std.specs.Option.{option_map}
 use Rattle.grammar.specs.Rule.{Rule, first, continue, read_end, repeat}
 use Rattle.grammar.specs.Rule.Outcome.{Took, Stuck}
@@ -42,10 +42,6 @@ reading_within text tokens (too_long long none fault) = absurd cc
 reading_within text tokens (cut_into pieces short cuts is_settled) =
     let P : List Token → Type 0 = λ us. AreWithin (length text) us in
     subst P (sym is_settled) (are_within (length text) (settled pieces) (tokens_within text pieces None cuts))
-
-pub reading_short : (text : List ℕ) (tokens : List Token) → IsReading text tokens None → length text ≤ 67108864
-reading_short text tokens (too_long long none fault) = absurd cc
-reading_short text tokens (cut_into pieces short cuts is_settled) = short
 
 -- The design
 
@@ -94,9 +90,6 @@ pub record FindsAt (tokens : List Token) (token : Token) : Type 0 where
   pub whole : tokens ≡ before ++ token ∷ after
   pub first : HasNoOutside before
   pub outside : is_outside token.kind ≡ true
-
-abbrev outside_token : Token → Bool
-outside_token t = is_outside t.kind
 
 pub finds_none : (tokens : List Token) → find (λ t. is_outside t.kind) tokens ≡ None → HasNoOutside tokens
 finds_none [] e = tt

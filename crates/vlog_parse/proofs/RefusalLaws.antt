@@ -1,10 +1,9 @@
 -- The tokens of a text have at most one refusal, and none where they have a tree.
-use Rattle.std.proofs.Common.{◌≡◌, refl, sym, ◌∙◌, ap, subst, ℕ, Bool, true, false, List, [], ◌∷◌, ◌++◌, append_assoc, append-nil, Option, Some, None, inl, inr, ◌⊎◌}
+use Rattle.std.proofs.Common.{◌≡◌, refl, sym, ◌∙◌, ap, subst, ℕ, true, false, List, [], ◌∷◌, ◌++◌, append_assoc, append-nil, Some, None, inl, inr, ◌⊎◌}
 use Rattle.grammar.specs.Good.{IsRefusedAt}
 use Rattle.grammar.specs.Outcomes.{no_end}
 use Rattle.vlog_lex.specs.declared.token.Token.{Token}
 use Rattle.vlog_lex.specs.declared.token.NetFault.{NetFault}
-use Rattle.ila_base.specs.declared.place.Place.{Place}
 use Rattle.ila_base.specs.declared.refusal.NetRefusal.TheVariants.{Construct, Syntax, Limit}
 use Rattle.vlog_parse.specs.declared.limits.Excess.{Excess}
 use Rattle.vlog_parse.specs.declared.tree.Tree.{Tree}
