@@ -1,0 +1,4 @@
+//! The calls of this crate.
+
+pub use crate::digits::constant;
+pub use crate::fitting::fit;

@@ -1,0 +1,9 @@
+//! Trigger programs as texts: their constants, their tokens, and the tree that a program stands for
+//! (UG908, trigger state machine language, in this project's profile).
+#![tactic(auto)]
+
+mod bytes;
+pub mod calls;
+mod digits;
+mod fitting;
+pub mod types;
