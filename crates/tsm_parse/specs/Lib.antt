@@ -1,2 +1,4 @@
 pub mod Constants
 pub mod Fitting
+pub mod Words
+pub mod Tokens

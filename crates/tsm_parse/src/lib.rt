@@ -6,4 +6,5 @@ mod bytes;
 pub mod calls;
 mod digits;
 mod fitting;
+mod token;
 pub mod types;

@@ -1,0 +1,48 @@
+-- What a trigger program is cut into: its tokens, each the longest that fits, up to the first byte that begins none.
+use Rattle.std.specs.Prelude.{◌≡◌, ◌≢◌, ℕ, ◌+◌, ◌<◌, ◌≤◌, Bool, true, false, List, [], ◌∷◌, ◌++◌, length, take, count_by, slice_range, codes, Option, Some, None, ◌⊎◌}
+use Rattle.std.specs.List.{suffix_len, AllPass, prefix_len}
+use Rattle.ila_base.specs.declared.place.Place.{Place}
+use Rattle.tsm_parse.specs.declared.token.Sort.{Sort}
+use Rattle.tsm_parse.specs.declared.token.Token.{Token}
+use Rattle.tsm_parse.specs.Words.{is_blank, is_newline, is_in_line, is_token, sort_of}
+
+-- before rest the bytes go to the end of the line
+abbrev pub IsLine : List ℕ → List ℕ → Type 0
+IsLine line rest = length line ≡ prefix_len is_in_line (line ++ rest)
+
+-- what is skipped before rest: white space, and a comment to the end of its line
+pub data Skips : List ℕ → List ℕ → Type 0 where
+  blank : {bytes rest : List ℕ} (b : ℕ) → bytes ≡ b ∷ [] → is_blank b ≡ true → Skips bytes rest
+  number_sign : {bytes rest : List ℕ} (line : List ℕ) → bytes ≡ codes "#" ++ line → IsLine line rest → Skips bytes rest
+  slashes : {bytes rest : List ℕ} (line : List ℕ) → bytes ≡ codes "//" ++ line → IsLine line rest → Skips bytes rest
+
+-- the front of a text of this many bytes is a token, and no longer front is one
+pub record IsLongest (text : List ℕ) (count : ℕ) : Type 0 where
+  pub some : 0 < count
+  pub within : count ≤ length text
+  pub token : is_token (take count text) ≡ true
+  pub longest : (more : ℕ) → count < more → more ≤ length text → is_token (take more text) ≡ false
+
+-- neither a token nor what is skipped begins here
+pub record BeginsNothing (text : List ℕ) : Type 0 where
+  pub some : text ≢ []
+  pub no_token : (count : ℕ) → 0 < count → count ≤ length text → is_token (take count text) ≡ false
+  pub no_skipped : (bytes rest : List ℕ) → text ≡ bytes ++ rest → Skips bytes rest → ⊥
+
+-- the place of a byte that stands behind these: its line is counted by the newlines, its column by the bytes behind the last of
+-- them, both from 1
+abbrev pub place_behind : List ℕ → Place
+place_behind before = record { line = count_by is_newline before + 1; col = suffix_len is_in_line before + 1 }
+
+-- the token of the bytes that stand behind these
+abbrev pub token_behind : List ℕ → List ℕ → Token
+token_behind before bytes = record { sort = sort_of bytes; place = place_behind before; start = length before; end = length before + length bytes }
+
+-- behind the bytes before it, the text is cut into the tokens: to its end, or to the place of the first byte that begins nothing
+pub data Cuts : List ℕ → List ℕ → List Token → Option Place → Type 0 where
+  ends : {before text : List ℕ} {tokens : List Token} {fault : Option Place} → text ≡ [] → tokens ≡ [] → fault ≡ None → Cuts before text tokens fault
+  skips : {before text : List ℕ} {tokens : List Token} {fault : Option Place} (bytes rest : List ℕ) → text ≡ bytes ++ rest → Skips bytes rest
+      → Cuts (before ++ bytes) rest tokens fault → Cuts before text tokens fault
+  takes : {before text : List ℕ} {tokens : List Token} {fault : Option Place} (bytes rest : List ℕ) (more : List Token) → text ≡ bytes ++ rest → IsLongest text (length bytes)
+      → tokens ≡ token_behind before bytes ∷ more → Cuts (before ++ bytes) rest more fault → Cuts before text tokens fault
+  stops : {before text : List ℕ} {tokens : List Token} {fault : Option Place} → BeginsNothing text → tokens ≡ [] → fault ≡ Some (place_behind before) → Cuts before text tokens fault
