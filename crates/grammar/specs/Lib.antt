@@ -8,3 +8,4 @@ pub mod BoundLaws
 pub mod RepeatLaws
 pub mod ListLaws
 pub mod NestLaws
+pub mod SortLaws

@@ -1,2 +1,4 @@
 mod Values
 mod TokenLaws
+mod SortLaws
+mod ProgramLaws

@@ -6,5 +6,6 @@ mod bytes;
 pub mod calls;
 mod digits;
 mod fitting;
+mod parts;
 mod token;
 pub mod types;
