@@ -9,3 +9,4 @@ pub mod RepeatLaws
 pub mod ListLaws
 pub mod NestLaws
 pub mod SortLaws
+pub mod LoopLaws

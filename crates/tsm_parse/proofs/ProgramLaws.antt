@@ -15,6 +15,7 @@ use Rattle.grammar.specs.SortLaws.{within, excludes}
 use Rattle.tsm_parse.specs.declared.parts.Body.{Body}
 use Rattle.tsm_parse.specs.declared.parts.Branch.{Branch}
 use Rattle.tsm_parse.specs.declared.parts.Named.{Named}
+use Rattle.tsm_parse.specs.declared.parts.Valued.{Valued}
 use Rattle.tsm_parse.specs.declared.token.Sort.{Sort}
 use Rattle.tsm_parse.specs.declared.token.Sort.TheVariants.{Name, State, If, Then, ElseIf, Else, EndIf, Goto, Trigger, SetFlag, Register, Constant, Colon, Semicolon, LeftParenthesis, RightParenthesis, Equal, AndAnd, OrOr}
 use Rattle.tsm_parse.specs.declared.types.Act.{Act}
@@ -24,7 +25,7 @@ use Rattle.tsm_parse.specs.declared.types.AstFormula.{AstFormula}
 use Rattle.tsm_parse.specs.declared.types.AstState.{AstState}
 use Rattle.tsm_parse.specs.declared.types.End.{End}
 use Rattle.tsm_parse.specs.Lexemes.{Lexeme, is, of_sort, same}
-use Rattle.tsm_parse.specs.Conditions.{mark, named, name, register, is_left, left, lexeme_itself, constant, is_operator, token_op, operator, left_first, constant_first, comparison, all_over, any_over, bracketed, part_within, condition}
+use Rattle.tsm_parse.specs.Conditions.{mark, named, name, register, is_left, left, valued, constant, is_operator, token_op, operator, left_first, constant_first, comparison, all_over, any_over, bracketed, part_within, condition}
 use Rattle.tsm_parse.specs.Programs.{is_act, token_act, act, action, goto_end, trigger_end, block, branch, else_if, else_block, if_body, plain_body, body, state, program}
 use Rattle.tsm_parse.proofs.SortLaws.{sorts, sample}
 
@@ -48,8 +49,8 @@ begins_left = sees (of_sort is_left)
 left_good : Good Lexeme Named begins_left anything left
 left_good = term_good (of_sort is_left) named (sample Name) refl
 
-constant_good : Good Lexeme Lexeme (sees (is Constant)) anything constant
-constant_good = term_good (is Constant) lexeme_itself (sample Constant) refl
+constant_good : Good Lexeme Valued (sees (is Constant)) anything constant
+constant_good = term_good (is Constant) valued (sample Constant) refl
 
 operator_good : Good Lexeme Op (sees (of_sort is_operator)) anything operator
 operator_good = term_good (of_sort is_operator) token_op (sample Equal) refl
@@ -78,15 +79,15 @@ or_or_close = or_else (sees (is OrOr)) (sees (is RightParenthesis))
 all_good : (part : Rule Lexeme AstFormula) → Good Lexeme AstFormula begins_part anything part → Good Lexeme AstFormula begins_part or_or_close (all_over part)
 all_good part good =
     then_good _ _
-      (list_good or_or_close (is AndAnd) (sample AndAnd) refl part good (λ o e. refl) (λ o e. refl) (excludes sorts (is AndAnd) or_or_close (λ t. refl) (λ t. refl) refl))
+    (list_good or_or_close (is AndAnd) (sample AndAnd) refl part good (λ o e. refl) (λ o e. refl) (excludes sorts (is AndAnd) or_or_close (λ t. refl) (λ t. refl) refl))
     (λ parts. pure_good _ or_or_close) (λ o e. e)
 
 any_good : (part : Rule Lexeme AstFormula) → Good Lexeme AstFormula begins_part anything part → Good Lexeme AstFormula begins_part (sees (is RightParenthesis)) (any_over part)
 any_good part good =
     then_good _ _
-      (list_good (sees (is RightParenthesis)) (is OrOr) (sample OrOr) refl (all_over part) (all_good part good)
-        (within sorts (sees (is OrOr)) or_or_close (λ t. refl) (λ t. refl) refl refl) (within sorts (sees (is RightParenthesis)) or_or_close (λ t. refl) (λ t. refl) refl refl)
-        (excludes sorts (is OrOr) (sees (is RightParenthesis)) (λ t. refl) (λ t. refl) refl))
+    (list_good (sees (is RightParenthesis)) (is OrOr) (sample OrOr) refl (all_over part) (all_good part good)
+    (within sorts (sees (is OrOr)) or_or_close (λ t. refl) (λ t. refl) refl refl) (within sorts (sees (is RightParenthesis)) or_or_close (λ t. refl) (λ t. refl) refl refl)
+    (excludes sorts (is OrOr) (sees (is RightParenthesis)) (λ t. refl) (λ t. refl) refl))
     (λ parts. pure_good _ (sees (is RightParenthesis))) (λ o e. e)
 
 bracketed_good : (any : Rule Lexeme AstFormula) → Good Lexeme AstFormula begins_part (sees (is RightParenthesis)) any → Good Lexeme AstFormula (sees (is LeftParenthesis)) anything (bracketed any)
@@ -132,9 +133,9 @@ begins_block = or_else (sees (of_sort is_act)) begins_end
 block_good : Good Lexeme AstBlock begins_block anything block
 block_good =
     then_good _ _
-      (repeat_good begins_end (of_sort is_act) action action_good (no_empty action action_good refl) (λ o e. e) (λ o e. refl) (excludes sorts (of_sort is_act) begins_end (λ t. refl) (λ t. refl) refl))
+    (repeat_good begins_end (of_sort is_act) action action_good (no_empty action action_good refl) (λ o e. e) (λ o e. refl) (excludes sorts (of_sort is_act) begins_end (λ t. refl) (λ t. refl) refl))
     (λ actions. then_good _ _
-      (either_good (is Goto) _ _ goto_good trigger_good (λ o e. e) (excludes sorts (is Goto) (sees (is Trigger)) (λ t. refl) (λ t. refl) refl))
+    (either_good (is Goto) _ _ goto_good trigger_good (λ o e. e) (excludes sorts (is Goto) (sees (is Trigger)) (λ t. refl) (λ t. refl) refl))
     (λ stop. pure_good _ anything) (λ o e. refl)) (λ o e. e)
 
 branch_good : Good Lexeme Branch (sees (is LeftParenthesis)) anything branch
@@ -154,9 +155,9 @@ if_good =
     then_good _ _ (mark_good If)
     (λ _. then_good _ _ branch_good
     (λ first. then_good _ _
-      (optional_good (is ElseIf) else_if (widened (λ o e. e) (λ o e. refl) else_if_good) (λ o e. e) (excludes sorts (is ElseIf) begins_last (λ t. refl) (λ t. refl) refl))
+    (optional_good (is ElseIf) else_if (widened (λ o e. e) (λ o e. refl) else_if_good) (λ o e. e) (excludes sorts (is ElseIf) begins_last (λ t. refl) (λ t. refl) refl))
     (λ second. then_good _ _
-      (optional_good (is Else) else_block (widened (λ o e. e) (λ o e. refl) else_good) (λ o e. e) (excludes sorts (is Else) (sees (is EndIf)) (λ t. refl) (λ t. refl) refl))
+    (optional_good (is Else) else_block (widened (λ o e. e) (λ o e. refl) else_good) (λ o e. e) (excludes sorts (is Else) (sees (is EndIf)) (λ t. refl) (λ t. refl) refl))
     (λ last. then_good _ _ (mark_good EndIf) (λ _. pure_good _ anything) (λ o e. refl)) (λ o e. e)) (λ o e. e)) (λ o e. refl)) (λ o e. refl)
 
 plain_good : Good Lexeme Body begins_block anything plain_body
@@ -175,6 +176,6 @@ pub program_good : Good Lexeme Ast (sees (is State)) at_end program
 program_good =
     then_good _ _ state_good
     (λ s. then_good _ _
-      (repeat_good at_end (is State) state state_good (no_empty state state_good refl) (λ o e. e) (λ o e. refl) (excludes sorts (is State) at_end (λ t. refl) (λ t. refl) refl))
+    (repeat_good at_end (is State) state state_good (no_empty state state_good refl) (λ o e. e) (λ o e. refl) (excludes sorts (is State) at_end (λ t. refl) (λ t. refl) refl))
     (λ more. then_good _ _ end_good (λ _. pure_good _ at_end) (λ o e. e)) (λ o e. e))
     (λ o e. refl)

@@ -4,6 +4,7 @@ use Rattle.ila_base.specs.declared.compare.Op.{Op}
 use Rattle.ila_base.specs.declared.compare.Op.TheVariants.{Eq, Ne, Lt, Le, Gt, Ge}
 use Rattle.grammar.specs.Rule.{Rule, term, token, pure, ◌>>=◌, either, repeat, list}
 use Rattle.tsm_parse.specs.declared.parts.Named.{Named}
+use Rattle.tsm_parse.specs.declared.parts.Valued.{Valued}
 use Rattle.tsm_parse.specs.declared.token.Sort.{Sort}
 use Rattle.tsm_parse.specs.declared.token.Sort.TheVariants.{Name, Register, Constant, LeftParenthesis, RightParenthesis, Equal, NotEqual, Less, LessEqual, Greater, GreaterEqual, AndAnd, OrOr}
 use Rattle.tsm_parse.specs.declared.types.AstFormula.{AstFormula}
@@ -36,14 +37,17 @@ abbrev pub left : Rule Lexeme Named
 left = term (of_sort is_left) named
 
 -- the constant that a token is
+abbrev pub constant_of_bytes : List ℕ → ConstantOf
+constant_of_bytes bytes = unwrap_or (constant_of bytes) (record { width = None; digits = [] })
+
 abbrev pub constant_in : Lexeme → ConstantOf
-constant_in t = unwrap_or (constant_of t.bytes) (record { width = None; digits = [] })
+constant_in t = constant_of_bytes t.bytes
 
-abbrev pub lexeme_itself : Lexeme → Lexeme
-lexeme_itself t = t
+abbrev pub valued : Lexeme → Valued
+valued t = record { constant = constant_in t; place = t.place }
 
-abbrev pub constant : Rule Lexeme Lexeme
-constant = term (is Constant) lexeme_itself
+abbrev pub constant : Rule Lexeme Valued
+constant = term (is Constant) valued
 
 -- op = "==" | "!=" | "<" | "<=" | ">" | ">="
 abbrev pub is_operator : Sort → Bool
@@ -78,8 +82,8 @@ turned Le = Ge
 turned Gt = Lt
 turned Ge = Le
 
-abbrev pub test_of : Named → Op → Lexeme → AstFormula
-test_of n op c = Test (record { left = n.name; left_place = n.place; op = op; constant = constant_in c; constant_place = c.place })
+abbrev pub test_of : Named → Op → Valued → AstFormula
+test_of n op c = Test (record { left = n.name; left_place = n.place; op = op; constant = c.constant; constant_place = c.place })
 
 -- left op constant
 abbrev pub left_first : Rule Lexeme AstFormula

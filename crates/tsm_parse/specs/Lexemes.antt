@@ -1,5 +1,5 @@
 -- A token as the grammar sees it.
-use Rattle.std.specs.Prelude.{ℕ, Bool, ◌==◌, List, map, slice_range}
+use Rattle.std.specs.Prelude.{ℕ, ◌<◌, ◌≤◌, Bool, ◌==◌, List, [], ◌∷◌, map, slice_range}
 use Rattle.ila_base.specs.declared.place.Place.{Place}
 use Rattle.tsm_parse.specs.declared.token.Sort.{Sort}
 use Rattle.tsm_parse.specs.declared.token.Sort.TheVariants.{Name, State, If, Then, ElseIf, Else, EndIf, Goto, Trigger, SetFlag, ClearFlag, IncrementCounter, ResetCounter, Register, Constant, Colon, Semicolon, LeftParenthesis, RightParenthesis, Equal, NotEqual, Less, LessEqual, Greater, GreaterEqual, AndAnd, OrOr}
@@ -56,3 +56,8 @@ is sort t = same sort t.sort
 -- the sort of the token passes the test
 abbrev pub of_sort : (Sort → Bool) → Lexeme → Bool
 of_sort test t = test t.sort
+
+-- each token has bytes, and they are among the first n
+abbrev pub AreWithin : ℕ → List Token → Type 0
+AreWithin n [] = Unit {0}
+AreWithin n (token ∷ tokens) = (token.start < token.end) × (token.end ≤ n) × AreWithin n tokens

@@ -5,3 +5,4 @@ pub mod Tokens
 pub mod Lexemes
 pub mod Conditions
 pub mod Programs
+pub mod Giving

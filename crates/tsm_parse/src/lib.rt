@@ -6,6 +6,8 @@ mod bytes;
 pub mod calls;
 mod digits;
 mod fitting;
+mod parser;
 mod parts;
+mod stop;
 mod token;
 pub mod types;

@@ -1,6 +1,6 @@
 //! What rules of the grammar give before it stands in the tree.
 
-use crate::types::{AstBlock, AstFormula};
+use crate::types::{AstBlock, AstFormula, Constant};
 use ila_base::{Items, Name, Place};
 
 /// A name or register, and its place.
@@ -23,4 +23,11 @@ pub struct Body {
     pub conds: Items<AstFormula>,
     pub blocks: Items<AstBlock>,
     pub has_else: bool,
+}
+
+/// A constant and its place.
+#[derive(Debug, Drop)]
+pub struct Valued {
+    pub constant: Constant,
+    pub place: Place,
 }
