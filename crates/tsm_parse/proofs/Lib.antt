@@ -2,3 +2,4 @@ mod Values
 mod TokenLaws
 mod SortLaws
 mod ProgramLaws
+mod PartLaws

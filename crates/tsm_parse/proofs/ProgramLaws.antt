@@ -43,7 +43,7 @@ register_good = term_good (is Register) named (sample Register) refl
 
 -- Conditions
 
-abbrev begins_left : Sight Lexeme
+abbrev pub begins_left : Sight Lexeme
 begins_left = sees (of_sort is_left)
 
 left_good : Good Lexeme Named begins_left anything left
@@ -63,20 +63,20 @@ constant_first_good : Good Lexeme AstFormula (sees (is Constant)) anything const
 constant_first_good =
     then_good _ _ constant_good (λ c. then_good _ _ operator_good (λ op. then_good _ _ left_good (λ n. pure_good _ anything) (λ o e. refl)) (λ o e. refl)) (λ o e. refl)
 
-abbrev begins_comparison : Sight Lexeme
+abbrev pub begins_comparison : Sight Lexeme
 begins_comparison = or_else (sees (is Constant)) begins_left
 
 comparison_good : Good Lexeme AstFormula begins_comparison anything comparison
 comparison_good = either_good (is Constant) _ _ constant_first_good left_first_good (λ o e. e) (excludes sorts (is Constant) begins_left (λ t. refl) (λ t. refl) refl)
 
 -- what may follow a part, and what may follow all parts: no `&&`, and no `||`
-abbrev begins_part : Sight Lexeme
+abbrev pub begins_part : Sight Lexeme
 begins_part = or_else (sees (is LeftParenthesis)) begins_comparison
 
-abbrev or_or_close : Sight Lexeme
+abbrev pub or_or_close : Sight Lexeme
 or_or_close = or_else (sees (is OrOr)) (sees (is RightParenthesis))
 
-all_good : (part : Rule Lexeme AstFormula) → Good Lexeme AstFormula begins_part anything part → Good Lexeme AstFormula begins_part or_or_close (all_over part)
+pub all_good : (part : Rule Lexeme AstFormula) → Good Lexeme AstFormula begins_part anything part → Good Lexeme AstFormula begins_part or_or_close (all_over part)
 all_good part good =
     then_good _ _
     (list_good or_or_close (is AndAnd) (sample AndAnd) refl part good (λ o e. refl) (λ o e. refl) (excludes sorts (is AndAnd) or_or_close (λ t. refl) (λ t. refl) refl))
@@ -96,7 +96,7 @@ bracketed_good any good =
     (λ _. then_good _ _ good (λ formula. then_good _ _ (mark_good RightParenthesis) (λ _. pure_good _ anything) (λ o e. refl)) (λ o e. e))
     (λ o e. refl)
 
-part_good : (n : ℕ) → Good Lexeme AstFormula begins_part anything (part_within n)
+pub part_good : (n : ℕ) → Good Lexeme AstFormula begins_part anything (part_within n)
 part_good zero = widened (within sorts begins_comparison begins_part (λ t. refl) (λ t. refl) refl refl) (λ o e. e) comparison_good
 part_good (suc n) =
     either_good (is LeftParenthesis) _ _ (bracketed_good (any_over (part_within n)) (any_good (part_within n) (part_good n))) comparison_good (λ o e. e)

@@ -4,6 +4,7 @@
 
 mod bytes;
 pub mod calls;
+mod conditions;
 mod digits;
 mod fitting;
 mod parser;
