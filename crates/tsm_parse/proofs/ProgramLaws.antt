@@ -1,15 +1,17 @@
 -- The rules of trigger programs are exact: so a text stands for at most one tree, and its syntax is refused at one token.
 use Rattle.std.specs.Prelude.{◌≡◌, refl, ℕ, zero, suc, Bool, true, false, List, [], ◌∷◌, Option, Some, None}
-use Rattle.std.proofs.Common.{sym, ◌∙◌}
+use Rattle.std.proofs.Common.{sym, ◌∙◌, ap}
 use Rattle.ila_base.specs.declared.compare.Op.{Op}
 use Rattle.ila_base.specs.declared.place.Place.{Place}
-use Rattle.grammar.specs.Rule.{Rule, first, term, token, pure, end, ◌>>=◌, either, repeat, optional, list}
+use Rattle.grammar.specs.Rule.{Rule, first, continue, term, token, pure, end, ◌>>=◌, either, repeat, optional, list}
+use Rattle.grammar.specs.Rule.Outcome.{Took}
+use Rattle.grammar.specs.LoopLaws.{behind}
 use Rattle.grammar.specs.Good.{Sight, IsWithin, Excludes, sees, anything, at_end, or_else, Good}
 use Rattle.grammar.specs.Outcomes.{no_end}
 use Rattle.grammar.specs.TokenLaws.{term_good, token_good, pure_good, end_good}
 use Rattle.grammar.specs.SequenceLaws.{then_good}
 use Rattle.grammar.specs.ChoiceLaws.{widened, either_good, optional_good}
-use Rattle.grammar.specs.RepeatLaws.{HasNoEmpty, repeat_good}
+use Rattle.grammar.specs.RepeatLaws.{HasNoEmpty, Shrinks, shrinks_by, repeat_good}
 use Rattle.grammar.specs.ListLaws.{list_good}
 use Rattle.grammar.specs.SortLaws.{within, excludes}
 use Rattle.tsm_parse.specs.declared.parts.Body.{Body}
@@ -26,7 +28,7 @@ use Rattle.tsm_parse.specs.declared.types.AstState.{AstState}
 use Rattle.tsm_parse.specs.declared.types.End.{End}
 use Rattle.tsm_parse.specs.Lexemes.{Lexeme, is, of_sort, same}
 use Rattle.tsm_parse.specs.Conditions.{mark, named, name, register, is_left, left, valued, constant, is_operator, token_op, operator, left_first, constant_first, comparison, all_over, any_over, bracketed, part_within, condition}
-use Rattle.tsm_parse.specs.Programs.{is_act, token_act, act, action, goto_end, trigger_end, block, branch, else_if, else_block, if_body, plain_body, body, state, program}
+use Rattle.tsm_parse.specs.Programs.{is_act, token_act, act, action, goto_end, trigger_end, block, branch, else_if, else_block, if_body, plain_body, body, state, states, program}
 use Rattle.tsm_parse.proofs.SortLaws.{sorts, sample}
 
 same_itself : (s : Sort) → same s s ≡ true
@@ -172,10 +174,27 @@ state_good =
     (λ _. then_good _ _ name_good (λ n. then_good _ _ (mark_good Colon) (λ _. then_good _ _ body_good (λ b. pure_good _ anything) (λ o e. refl)) (λ o e. refl)) (λ o e. refl))
     (λ o e. refl)
 
-pub program_good : Good Lexeme Ast (sees (is State)) at_end program
-program_good =
+states_good : Good Lexeme (List AstState) (sees (is State)) at_end states
+states_good =
     then_good _ _ state_good
     (λ s. then_good _ _
     (repeat_good at_end (is State) state state_good (no_empty state state_good refl) (λ o e. e) (λ o e. refl) (excludes sorts (is State) at_end (λ t. refl) (λ t. refl) refl))
-    (λ more. then_good _ _ end_good (λ _. pure_good _ at_end) (λ o e. e)) (λ o e. e))
+    (λ more. pure_good _ at_end) (λ o e. e))
     (λ o e. refl)
+
+pub program_good : Good Lexeme Ast (sees (is State)) at_end program
+program_good = then_good _ _ states_good (λ found. then_good _ _ end_good (λ _. pure_good _ at_end) (λ o e. e)) (λ o e. e)
+
+-- What loops need
+
+pub action_shrinks : Shrinks action
+action_shrinks = shrinks_by action action_good (no_empty action action_good refl)
+
+pub state_shrinks : Shrinks state
+state_shrinks = shrinks_by state state_good (no_empty state state_good refl)
+
+-- the first state is read
+pub states_begin : (ts rest : List Lexeme) (x : AstState) (done : List AstState) → state.read ts ≡ Took x rest → done ≡ x ∷ [] → states.read ts ≡ behind done ((repeat (is State) state).read rest)
+states_begin ts rest x done e is_one =
+    ap (λ o. continue o (λ y us. continue ((repeat (is State) state).read us) (λ ys vs. Took (y ∷ ys) vs))) e
+    ∙ ap (λ ys. behind ys ((repeat (is State) state).read rest)) (sym is_one)

@@ -1,5 +1,6 @@
 -- The grammar of trigger programs (UG908, trigger state machine language), and which tree a text stands for.
-use Rattle.std.specs.Prelude.{ℕ, Bool, true, false, List, [], ◌∷◌, ◌++◌, length, Option, Some, None, ◌≡◌, ◌⊎◌}
+use Rattle.std.specs.Prelude.{ℕ, Bool, true, false, List, [], ◌∷◌, ◌++◌, length, Option, Some, None, Result, IfOk, ◌≡◌, ◌⊎◌}
+use Rattle.ila_base.specs.declared.memory.NoMemory.{NoMemory}
 use Rattle.ila_base.specs.declared.place.Place.{Place}
 use Rattle.grammar.specs.Rule.{Rule, term, token, pure, end, ◌>>=◌, either, repeat, optional}
 use Rattle.tsm_parse.specs.declared.parts.Body.{Body}
@@ -112,6 +113,9 @@ body_of first second last = record {
   has_else = is_there last;
 }
 
+abbrev pub IsBodyOf : Branch → Option Branch → Option AstBlock → Result Body NoMemory → Type 0
+IsBodyOf first second last result = IfOk result (λ body. body ≡ body_of first second last)
+
 -- "if" condition "then" block [ "elseif" condition "then" block ] [ "else" block ] "endif"
 abbrev pub if_body : Rule Lexeme Body
 if_body = do
@@ -140,13 +144,19 @@ state = do
   b ← body
   pure (record { name = n.name; place = n.place; conds = b.conds; blocks = b.blocks; has_else = b.has_else })
 
+-- state { state }
+abbrev pub states : Rule Lexeme (List AstState)
+states = do
+  first ← state
+  more ← repeat (is State) state
+  pure (first ∷ more)
+
 -- program = state { state }, to the end of the text
 abbrev pub program : Rule Lexeme Ast
 program = do
-  first ← state
-  more ← repeat (is State) state
+  found ← states
   _ ← end
-  pure (record { states = first ∷ more })
+  pure (record { states = found })
 
 -- the text, cut into these tokens, stands for the tree
 abbrev pub IsProgram : List ℕ → List Token → Ast → Type 0

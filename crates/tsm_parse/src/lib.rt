@@ -9,6 +9,7 @@ mod digits;
 mod fitting;
 mod parser;
 mod parts;
+mod programs;
 mod stop;
 mod token;
 pub mod types;

@@ -1,5 +1,5 @@
 ghost use Rattle.std.specs.Prelude.{◌≡◌, [], ◌↔◌, IsTrue, IfOk, length, ◌<◌, ◌≤◌, slice_range};
-ghost use Rattle.grammar.specs.Rule.{looks};
+ghost use Rattle.grammar.specs.Rule.{looks, end};
 ghost use Rattle.tsm_parse.specs.Lexemes.{is, of_sort};
 ghost use Rattle.tsm_parse.specs.Conditions.{mark, name, register, left, constant, constant_of_bytes, operator};
 ghost use Rattle.tsm_parse.specs.Programs.{is_act, act};
@@ -80,6 +80,16 @@ impl<'a> Parser<'a> {
         ensures { IsTrue result ↔ (self.now ≡ []) }
     {
         self.rest.is_empty()
+    }
+
+    /// The end of the text.
+    pub fn end_of_text(&mut self) -> Result<(), Stop>
+        ensures { Gives (end.read self.old) result self.new }
+    {
+        if self.is_at_end() {
+            return Ok(());
+        }
+        Err(Stop::Syntax)
     }
 
     /// A token of the sort.
