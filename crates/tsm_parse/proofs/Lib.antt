@@ -1,2 +1,3 @@
 mod Values
 mod TokenLaws
+pub mod Scanning

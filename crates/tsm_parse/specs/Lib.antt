@@ -2,3 +2,4 @@ pub mod Constants
 pub mod Fitting
 pub mod Words
 pub mod Tokens
+pub mod Reading
