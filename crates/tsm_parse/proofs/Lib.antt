@@ -1,3 +1,5 @@
 mod Values
 mod TokenLaws
 pub mod Scanning
+pub mod FrontLaws
+pub mod ConstantLaws

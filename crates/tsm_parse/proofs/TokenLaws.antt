@@ -21,7 +21,7 @@ by_same test b k false is holds fails = refl
 pub apart : (test : ℕ → Bool) (b k : ℕ) → test b ≡ true → test k ≡ false → (b == k) ≡ false
 apart test b k holds fails = by_same test b k (b == k) refl holds fails
 
-and_left : (a b : Bool) → (a && b) ≡ true → a ≡ true
+pub and_left : (a b : Bool) → (a && b) ≡ true → a ≡ true
 and_left true b e = refl
 and_left false b e = e
 
@@ -109,7 +109,7 @@ fourth_of_four false true c m no_w no_r no_c = absurd (no_end (sym no_r))
 fourth_of_four false false true m no_w no_r no_c = absurd (no_end (sym no_c))
 fourth_of_four false false false m no_w no_r no_c = refl
 
-true_and : (a b : Bool) → a ≡ true → (a && b) ≡ b
+pub true_and : (a b : Bool) → a ≡ true → (a && b) ≡ b
 true_and true b e = refl
 true_and false b e = absurd (no_end e)
 
