@@ -3,3 +3,4 @@ mod TokenLaws
 pub mod Scanning
 pub mod FrontLaws
 pub mod ConstantLaws
+pub mod LongestLaws
