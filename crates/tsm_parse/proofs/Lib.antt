@@ -4,3 +4,4 @@ pub mod Scanning
 pub mod FrontLaws
 pub mod ConstantLaws
 pub mod LongestLaws
+pub mod PieceLaws
