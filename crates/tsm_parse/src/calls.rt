@@ -2,3 +2,4 @@
 
 pub use crate::digits::constant;
 pub use crate::fitting::fit;
+pub use crate::laws::one_reading;
