@@ -1,16 +1,15 @@
 -- The longest front of a text that is a constant.
-use Rattle.std.proofs.Common.{◌≡◌, ℕ, zero, suc, ◌+◌, ◌-◌, ◌<◌, ◌≤◌, Bool, true, false, List, [], ◌∷◌, ◌++◌, length, take, drop, refl, ap, sym, ◌∙◌, subst, arith, length-append, length-drop, length-take-le, take-append-drop}
-use Rattle.std.specs.Prelude.{cond, not, ◌&&◌, ◌||◌, ◌==◌, is_some, if◌then◌else◌, Option, Some, None, option_and_then}
+use Rattle.std.proofs.Common.{◌≡◌, ℕ, zero, suc, ◌+◌, ◌-◌, ◌<◌, ◌≤◌, Bool, true, false, List, [], ◌∷◌, ◌++◌, length, take, drop, refl, ap, sym, ◌∙◌, subst, arith, length-drop, length-take-le, take-append-drop}
+use Rattle.std.specs.Prelude.{not, ◌&&◌, ◌||◌, ◌==◌, is_some, if◌then◌else◌, Option, Some, None, option_and_then}
 use Rattle.std.specs.List.{list_all, prefix_len}
 use Rattle.std.proofs.Math.Seq.{take-append-add, take-length}
-use Rattle.std.proofs.lemmas.Bool.{eqb-true}
 use Rattle.std.proofs.lemmas.List.{drop_at, drop-drop, take-take, append-nil}
 use Rattle.std.proofs.lemmas.List.Sums.{prefix_len-le-length}
 use Rattle.grammar.specs.Outcomes.{no_end, cond_yes, cond_not}
 use Rattle.tsm_parse.specs.declared.bytes.Base.{Base}
 use Rattle.tsm_parse.specs.declared.bytes.Base.TheVariants.{Decimal}
 use Rattle.tsm_parse.specs.declared.types.Constant.{Constant}
-use Rattle.tsm_parse.specs.Constants.{is_digit, is_place, is_numeral, is_no_quote, before_quote, behind_quote, base_of, sized_with, sized_of, constant_of}
+use Rattle.tsm_parse.specs.Constants.{is_digit, is_place, is_numeral, is_no_quote, before_quote, behind_quote, base_of, sized_with, sized_of}
 use Rattle.tsm_parse.specs.Words.{is_constant}
 use Rattle.tsm_parse.specs.Reading.{digits_more, digits_end, numeral_length, based_bytes, based_length, suffix_length, constant_length}
 use Rattle.tsm_parse.proofs.TokenLaws.{apart, and_left, and_right, and_not, and_not_right, true_and, sized_none}
@@ -173,14 +172,15 @@ module _ (text : List ℕ) (n : ℕ) (some : 0 < n) (width_is : IsLength (is_num
   constant_front : (m : ℕ) → 0 < m → m ≤ length after → is_constant (take (n + m) text) ≡ is_suffix (take m after)
   constant_front m more within =
       ap is_constant (front_on m) ∙ by_bytes (take m after) refl where
-    fronts : (p : ℕ) → 0 < p → p ≤ length (take m after) → is_numeral Decimal (take n text ++ take p (take m after)) ≡ false
-    fronts p some_bytes inside =
-        let long : length (take m after) ≡ m = length-take-le m after within in
-        ap (λ zs. is_numeral Decimal (take n text ++ zs)) (take-take p m after (omega (arith, inside, long))) ∙ behind_fails p some_bytes (omega (arith, inside, long, within))
-    by_bytes : (ys : List ℕ) → take m after ≡ ys → is_constant (take n text ++ ys) ≡ is_suffix ys
-    by_bytes [] is = absurd (omega (arith, more, ap length is, length-take-le m after within))
-    by_bytes (y ∷ zs) is =
-        constant_suffix (take n text) (width_is.holds some) y zs (y == 39) (subst (λ l. (p : ℕ) → 0 < p → p ≤ length l → is_numeral Decimal (take n text ++ take p l) ≡ false) is fronts) refl
+        fronts : (p : ℕ) → 0 < p → p ≤ length (take m after) → is_numeral Decimal (take n text ++ take p (take m after)) ≡ false
+        fronts p some_bytes inside =
+            let long : length (take m after) ≡ m = length-take-le m after within in
+            ap (λ zs. is_numeral Decimal (take n text ++ zs)) (take-take p m after (omega (arith, inside, long))) ∙ behind_fails p some_bytes (omega (arith, inside, long, within))
+
+        by_bytes : (ys : List ℕ) → take m after ≡ ys → is_constant (take n text ++ ys) ≡ is_suffix ys
+        by_bytes [] is = absurd (omega (arith, more, ap length is, length-take-le m after within))
+        by_bytes (y ∷ zs) is =
+            constant_suffix (take n text) (width_is.holds some) y zs (y == 39) (subst (λ l. (p : ℕ) → 0 < p → p ≤ length l → is_numeral Decimal (take n text ++ take p l) ≡ false) is fronts) refl
 
   width_alone : is_constant (take n text) ≡ true
   width_alone = ap is_some (cond_yes _ _ _ (width_is.holds some))
@@ -205,13 +205,14 @@ numeral_some b xs digit =
     let begun : numeral_length Decimal (b ∷ xs) ≡ digits_end Decimal (b ∷ xs) = cond_yes _ _ _ digit in
     let place : digits_end Decimal (b ∷ xs) ≡ digits_more (is_digit Decimal b) (digits_end Decimal xs) = cond_yes _ _ _ (either (is_digit Decimal b) (b == 95) digit) in
     omega (arith, begun, place, more_some (is_digit Decimal b) (digits_end Decimal xs) digit) where
-  either : (u v : Bool) → u ≡ true → (u || v) ≡ true
-  either true v e = refl
-  either false v e = absurd (no_end e)
-  more_some : (digit : Bool) (n : ℕ) → digit ≡ true → 0 < digits_more digit n
-  more_some true zero e = omega arith
-  more_some true (suc n) e = omega arith
-  more_some false n e = absurd (no_end e)
+      either : (u v : Bool) → u ≡ true → (u || v) ≡ true
+      either true v e = refl
+      either false v e = absurd (no_end e)
+
+      more_some : (digit : Bool) (n : ℕ) → digit ≡ true → 0 < digits_more digit n
+      more_some true zero e = omega arith
+      more_some true (suc n) e = omega arith
+      more_some false n e = absurd (no_end e)
 
 pub constant_some : (b : ℕ) (xs : List ℕ) → is_digit Decimal b ≡ true → 0 < constant_length (b ∷ xs)
 constant_some b xs digit = omega (arith, numeral_some b xs digit)

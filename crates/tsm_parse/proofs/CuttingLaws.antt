@@ -1,11 +1,10 @@
 -- A text is cut in one way.
-use Rattle.std.proofs.Common.{◌≡◌, ◌≢◌, ℕ, ◌<◌, List, [], ◌∷◌, ◌++◌, Bool, true, false, refl, sym, ◌∙◌, ap, subst, arith, length, take, drop}
+use Rattle.std.proofs.Common.{◌≡◌, ℕ, List, [], ◌∷◌, ◌++◌, refl, sym, ◌∙◌, ap, subst, arith, length, take, drop}
 use Rattle.std.specs.Prelude.{Option, Some, None}
 use Rattle.std.proofs.lemmas.List.{take_at, drop_at}
 use Rattle.grammar.specs.Outcomes.{no_end}
 use Rattle.ila_base.specs.declared.place.Place.{Place}
 use Rattle.tsm_parse.specs.declared.token.Token.{Token}
-use Rattle.tsm_parse.specs.Words.{is_token}
 use Rattle.tsm_parse.specs.Tokens.{Skips, IsLongest, BeginsNothing, place_behind, token_behind, Cuts, ends, skips, takes, stops}
 use Rattle.tsm_parse.specs.Reading.{skip_length}
 use Rattle.tsm_parse.proofs.PieceLaws.{skips_again, skips_some, skip_no_token, same_count}

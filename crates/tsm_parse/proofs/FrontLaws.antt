@@ -1,13 +1,12 @@
 -- The longest front of a text that passes a test: numerals and constants.
-use Rattle.std.proofs.Common.{◌≡◌, ℕ, zero, suc, ◌+◌, ◌-◌, ◌<◌, ◌≤◌, Bool, true, false, List, [], ◌∷◌, ◌++◌, length, take, drop, refl, ap, sym, ◌∙◌, subst, arith, length-append, length-drop, length-take-le, take-append-drop}
-use Rattle.std.specs.Prelude.{cond, not, ◌&&◌, ◌==◌, is_some, if◌then◌else◌, slice_get, Option, Some, None, option_and_then}
-use Rattle.std.specs.List.{list_all, prefix_len}
-use Rattle.std.specs.Option.{option_map_or}
-use Rattle.grammar.specs.Outcomes.{no_end, cond_yes, cond_not}
+use Rattle.std.proofs.Common.{◌≡◌, ℕ, zero, suc, ◌+◌, ◌-◌, ◌<◌, ◌≤◌, Bool, true, false, List, [], ◌∷◌, length, take, refl, ap, ◌∙◌, arith}
+use Rattle.std.specs.Prelude.{◌&&◌, if◌then◌else◌}
+use Rattle.std.specs.List.{list_all}
+use Rattle.grammar.specs.Outcomes.{no_end}
 use Rattle.tsm_parse.specs.declared.bytes.Base.{Base}
 use Rattle.tsm_parse.specs.Constants.{is_digit, is_place, is_numeral, passes_at}
 use Rattle.tsm_parse.specs.Reading.{digits_more, digits_end, numeral_length}
-use Rattle.tsm_parse.proofs.TokenLaws.{and_right, and_left, and_not, and_not_right, true_and, take_one}
+use Rattle.tsm_parse.proofs.TokenLaws.{and_right, and_left, and_not, and_not_right}
 
 -- the front of so many bytes passes the test, if it has bytes, and no longer front does
 pub record IsLength (test : List ℕ → Bool) (text : List ℕ) (count : ℕ) : Type 0 where
@@ -136,10 +135,10 @@ numeral_is base x xs =
     ap (λ k. list_all (is_place base) (x ∷ xs) && is_digit base x && passes_at (is_digit base) (x ∷ xs) k) end
     ∙ ap (λ v. list_all (is_place base) (x ∷ xs) && is_digit base x && v) (last_passes (is_digit base) x xs)
     ∙ turned (list_all (is_place base) (x ∷ xs)) (is_digit base x) (ends_as (is_digit base) (x ∷ xs)) where
-  turned : (a b c : Bool) → (a && b && c) ≡ (b && (a && c))
-  turned true b c = refl
-  turned false true c = refl
-  turned false false c = refl
+      turned : (a b c : Bool) → (a && b && c) ≡ (b && (a && c))
+      turned true b c = refl
+      turned false true c = refl
+      turned false false c = refl
 
 numeral_front : (base : Base) (x : ℕ) (xs : List ℕ) (m : ℕ) → 0 < m → is_numeral base (take m (x ∷ xs)) ≡ (is_digit base x && is_ending base (take m (x ∷ xs)))
 numeral_front base x xs zero some = absurd (omega (arith, some))

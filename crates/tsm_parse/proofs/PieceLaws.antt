@@ -1,6 +1,6 @@
 -- The piece that a text begins with: what is skipped, a token, or nothing.
-use Rattle.std.proofs.Common.{◌≡◌, ◌≢◌, ℕ, zero, suc, ◌+◌, ◌<◌, ◌≤◌, Bool, true, false, List, [], ◌∷◌, ◌++◌, length, take, drop, refl, ap, sym, ◌∙◌, subst, arith, length-take-le, take-append-drop}
-use Rattle.std.specs.Prelude.{cond, ◌&&◌, ◌||◌, ◌==◌, nat_lt, if◌then◌else◌, codes}
+use Rattle.std.proofs.Common.{◌≡◌, ◌≢◌, ℕ, zero, suc, ◌+◌, ◌<◌, Bool, true, false, List, [], ◌∷◌, ◌++◌, length, take, drop, refl, ap, sym, ◌∙◌, subst, arith, length-take-le, take-append-drop}
+use Rattle.std.specs.Prelude.{◌||◌, ◌==◌, nat_lt, if◌then◌else◌, codes}
 use Rattle.std.specs.List.{prefix_len}
 use Rattle.std.proofs.lemmas.Bool.{eqb-true, ltb-true, ltb-false}
 use Rattle.std.proofs.lemmas.List.Folds.{length-prefix_len}
@@ -8,7 +8,7 @@ use Rattle.grammar.specs.Outcomes.{no_end, cond_yes, cond_not}
 use Rattle.tsm_parse.specs.declared.token.Sort.{Sort}
 use Rattle.tsm_parse.specs.declared.piece.Piece.{Piece}
 use Rattle.tsm_parse.specs.declared.piece.Piece.TheVariants.{Skip, Token, Nothing}
-use Rattle.tsm_parse.specs.Words.{is_blank, is_in_line, is_letter, is_digit, is_mark, is_token, sort_of}
+use Rattle.tsm_parse.specs.Words.{is_blank, is_in_line, is_letter, is_digit, is_token, sort_of}
 use Rattle.tsm_parse.specs.Tokens.{IsLine, Skips, blank, number_sign, slashes, IsLongest, BeginsNothing}
 use Rattle.tsm_parse.specs.Reading.{slashes_length, skip_length, token_length, sort_at, token_piece, skip_piece, piece_at}
 use Rattle.tsm_parse.proofs.TokenLaws.{apart, or_not, no_mark, mark_token}

@@ -1,6 +1,6 @@
 -- The loops that read a text byte by byte: how far a numeral goes, and whether a word is a keyword.
 use Rattle.std.proofs.Common.{◌≡◌, ℕ, zero, suc, ◌+◌, ◌<◌, ◌≤◌, Bool, true, false, List, [], ◌∷◌, length, drop, get_or, refl, ap, sym, ◌∙◌, arith, nat_eq}
-use Rattle.std.specs.Prelude.{map, cond, ◌&&◌, if◌then◌else◌}
+use Rattle.std.specs.Prelude.{map, cond, ◌&&◌}
 use Rattle.std.specs.Str.{bytes_eq}
 use Rattle.std.proofs.lemmas.Bool.{eq-eqb, ne_eqb}
 use Rattle.std.proofs.lemmas.List.{at_drop_more, at_drop_all}

@@ -1,6 +1,6 @@
 -- What a text begins with, as a function of the text: the form in which the code tells it. The relation that a reader is to
 -- believe is in Tokens.
-use Rattle.std.specs.Prelude.{◌≡◌, ℕ, zero, suc, ◌+◌, ◌<◌, ◌≤◌, List, [], ◌∷◌, ◌++◌, take, drop, length, Bool, ◌&&◌, ◌==◌, nat_lt, if◌then◌else◌, Option, Some, None}
+use Rattle.std.specs.Prelude.{◌≡◌, ℕ, zero, suc, ◌+◌, List, [], ◌∷◌, ◌++◌, take, drop, Bool, ◌==◌, if◌then◌else◌, Option, Some, None}
 use Rattle.std.specs.List.{prefix_len}
 use Rattle.ila_base.specs.declared.place.Place.{Place}
 use Rattle.tsm_parse.specs.declared.bytes.Base.{Base}

@@ -3,10 +3,11 @@ ghost use Rattle.std.specs.List.{prefix_len};
 ghost use Rattle.tsm_parse.specs.Words as words;
 ghost use Rattle.tsm_parse.specs.Reading.{digits_end, numeral_length, based_length, suffix_length, constant_length, register_length, mark_length, token_length, skip_length};
 
-use crate::bytes::{Base, base_of, is_place};
-use crate::bytes::is_digit as is_digit_of;
+use crate::bytes::{Base, base_of, is_digit as is_digit_of, is_place};
 use crate::digits::begins_as;
-use crate::letters::{is_blank, is_digit, is_double, is_letter, is_newline, is_single, is_word_byte};
+use crate::letters::{
+    is_blank, is_digit, is_double, is_letter, is_newline, is_single, is_word_byte,
+};
 
 /// How many bytes of the text are digits of the base and `_`, of which the last is a digit.
 fn digits_end(base: Base, text: &[u8]) -> usize

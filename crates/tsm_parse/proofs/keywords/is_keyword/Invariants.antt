@@ -1,4 +1,4 @@
-use Rattle.std.proofs.Common.{◌≡◌, length}
+use Rattle.std.proofs.Common.{◌≡◌}
 use Rattle.tsm_parse.specs.Words.{is_keyword}
 use Rattle.tsm_parse.proofs.Scanning.{left_same}
 use Rattle.tsm_parse.proofs.keywords.is_keyword.Given as goal
