@@ -13,5 +13,7 @@ mod letters;
 mod lexer;
 mod piece;
 mod place;
+#[cfg(test)]
+mod tests;
 mod token;
 pub mod types;
