@@ -1,10 +1,11 @@
-mod Values
-mod TokenLaws
-pub mod Scanning
-pub mod FrontLaws
 pub mod ConstantLaws
+pub mod CuttingLaws
+pub mod FrontLaws
 pub mod LongestLaws
 pub mod PieceLaws
-pub mod CuttingLaws
-pub mod StepLaws
+pub mod Scanning
+pub mod ShapeLaws
 pub mod SpanLaws
+pub mod StepLaws
+pub mod TokenLaws
+pub mod Values
