@@ -1,9 +1,9 @@
 -- How a part of a condition is read, by the room for parentheses.
-use Rattle.std.specs.Prelude.{◌≡◌, refl, ℕ, zero, suc, ◌+◌, ◌-◌, ◌<◌, Bool, true, false, cond, List, [], ◌∷◌, ◌++◌, length}
-use Rattle.std.proofs.Common.{sym, ◌∙◌, ap, subst, arith, length-append, Result}
-use Rattle.grammar.specs.Rule.{Outcome, Rule, looks}
+use Rattle.std.specs.Prelude.{◌≡◌, refl, ℕ, zero, suc, ◌+◌, ◌-◌, true, false, List, [], ◌∷◌, ◌++◌, length}
+use Rattle.std.proofs.Common.{sym, ap, subst, arith, length-append, Result}
+use Rattle.grammar.specs.Rule.{Outcome, looks}
 use Rattle.grammar.specs.Outcomes.{cond_yes, cond_not}
-use Rattle.grammar.specs.NestLaws.{Keeps, good_keeps}
+use Rattle.grammar.specs.NestLaws.{good_keeps}
 use Rattle.grammar.specs.RepeatLaws.{Shrinks}
 use Rattle.grammar.specs.LoopLaws.{separated_shrinks}
 use Rattle.grammar.specs.ListLaws.{separated}

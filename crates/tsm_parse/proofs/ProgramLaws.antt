@@ -1,12 +1,12 @@
 -- The rules of trigger programs are exact: so a text stands for at most one tree, and its syntax is refused at one token.
-use Rattle.std.specs.Prelude.{◌≡◌, refl, ℕ, zero, suc, Bool, true, false, List, [], ◌∷◌, Option, Some, None}
+use Rattle.std.specs.Prelude.{◌≡◌, refl, ℕ, zero, suc, true, false, List, [], ◌∷◌, None}
 use Rattle.std.proofs.Common.{sym, ◌∙◌, ap}
 use Rattle.ila_base.specs.declared.compare.Op.{Op}
 use Rattle.ila_base.specs.declared.place.Place.{Place}
-use Rattle.grammar.specs.Rule.{Rule, first, continue, term, token, pure, end, ◌>>=◌, either, repeat, optional, list}
+use Rattle.grammar.specs.Rule.{Rule, continue, repeat}
 use Rattle.grammar.specs.Rule.Outcome.{Took}
 use Rattle.grammar.specs.LoopLaws.{behind}
-use Rattle.grammar.specs.Good.{Sight, IsWithin, Excludes, sees, anything, at_end, or_else, Good}
+use Rattle.grammar.specs.Good.{Sight, sees, anything, at_end, or_else, Good}
 use Rattle.grammar.specs.Outcomes.{no_end}
 use Rattle.grammar.specs.TokenLaws.{term_good, token_good, pure_good, end_good}
 use Rattle.grammar.specs.SequenceLaws.{then_good}

@@ -1,15 +1,14 @@
 -- Which tokens a text begins with, by its first byte.
-use Rattle.std.proofs.Common.{◌≡◌, ℕ, zero, suc, ◌+◌, ◌<◌, ◌≤◌, Bool, true, false, List, [], ◌∷◌, length, take, refl, ap, sym, ◌∙◌, subst, arith}
-use Rattle.std.specs.Prelude.{cond, not, ◌&&◌, ◌||◌, ◌==◌, nat_le, is_some, if◌then◌else◌, Option, Some, None, option_and_then}
+use Rattle.std.proofs.Common.{◌≡◌, ℕ, zero, suc, ◌+◌, ◌<◌, ◌≤◌, Bool, true, false, List, [], ◌∷◌, length, take, refl, ap, sym, ◌∙◌, arith}
+use Rattle.std.specs.Prelude.{cond, ◌&&◌, ◌||◌, ◌==◌, nat_le, is_some, Option, Some, None, option_and_then}
 use Rattle.std.specs.List.{list_all, prefix_len}
 use Rattle.std.proofs.lemmas.Bool.{eqb-true, leb-true, lt-leb}
-use Rattle.grammar.specs.Outcomes.{no_end, cond_yes, cond_not}
+use Rattle.grammar.specs.Outcomes.{no_end, cond_not}
 use Rattle.tsm_parse.specs.declared.bytes.Base.{Base}
-use Rattle.tsm_parse.specs.declared.bytes.Base.TheVariants.{Binary, Decimal, Hexadecimal}
-use Rattle.tsm_parse.specs.declared.types.Constant.{Constant}
+use Rattle.tsm_parse.specs.declared.bytes.Base.TheVariants.{Decimal}
 use Rattle.tsm_parse.specs.Constants as constants
 use Rattle.tsm_parse.specs.Constants.{is_between, constant_of, is_numeral, is_no_quote, before_quote, behind_quote, sized_of, sized_with, base_of, is_place, passes_at}
-use Rattle.tsm_parse.specs.Words.{is_letter, is_digit, is_word_byte, is_word, is_register, is_constant, is_single, is_double, is_mark, is_token}
+use Rattle.tsm_parse.specs.Words.{is_letter, is_digit, is_word_byte, is_word, is_register, is_constant, is_mark, is_token}
 
 -- Tests
 
@@ -21,7 +20,7 @@ by_same test b k false is holds fails = refl
 pub apart : (test : ℕ → Bool) (b k : ℕ) → test b ≡ true → test k ≡ false → (b == k) ≡ false
 apart test b k holds fails = by_same test b k (b == k) refl holds fails
 
-and_left : (a b : Bool) → (a && b) ≡ true → a ≡ true
+pub and_left : (a b : Bool) → (a && b) ≡ true → a ≡ true
 and_left true b e = refl
 and_left false b e = e
 
@@ -109,7 +108,7 @@ fourth_of_four false true c m no_w no_r no_c = absurd (no_end (sym no_r))
 fourth_of_four false false true m no_w no_r no_c = absurd (no_end (sym no_c))
 fourth_of_four false false false m no_w no_r no_c = refl
 
-true_and : (a b : Bool) → a ≡ true → (a && b) ≡ b
+pub true_and : (a b : Bool) → a ≡ true → (a && b) ≡ b
 true_and true b e = refl
 true_and false b e = absurd (no_end e)
 

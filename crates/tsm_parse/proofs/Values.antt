@@ -1,7 +1,7 @@
 -- What digits stand for, one after the other, and the digits of a number.
-use Rattle.std.proofs.Common.{◌≡◌, ℕ, zero, suc, ◌+◌, ◌*◌, ◌/◌, ◌%◌, ◌^◌, ◌<◌, ◌≤◌, List, [], ◌∷◌, ◌++◌, Bool, true, false, refl, ap, sym, ◌∙◌, arith, length, length-append, get_or, take}
-use Rattle.std.specs.Prelude.{cond, map, reverse, filter, not, if◌then◌else◌}
-use Rattle.std.specs.Int.Digits.{digits_of, number_from_digits, number_from_digits_after}
+use Rattle.std.proofs.Common.{◌≡◌, ℕ, zero, suc, ◌+◌, ◌*◌, ◌/◌, ◌%◌, ◌^◌, ◌<◌, List, [], ◌∷◌, ◌++◌, Bool, true, false, refl, ap, sym, ◌∙◌, arith, length, length-append, get_or, take}
+use Rattle.std.specs.Prelude.{cond, map, reverse, not}
+use Rattle.std.specs.Int.Digits.{digits_of, number_from_digits_after}
 use Rattle.std.proofs.lemmas.Int.Digits.{digits_of_step, number_after_ge}
 use Rattle.std.proofs.lemmas.List.{reverse-append, map_push}
 use Rattle.std.specs.Prelude.{replicate, slice_get, unwrap_or}
@@ -10,7 +10,7 @@ use Rattle.std.proofs.lemmas.List.{length-replicate}
 use Rattle.std.proofs.lemmas.Option.{unwrap_or-slice_get}
 use Rattle.ila_base.specs.declared.compare.Digit.{Digit}
 use Rattle.ila_base.specs.declared.compare.Digit.TheVariants.{Zero}
-use Rattle.tsm_parse.specs.Constants.{digit_value, is_underscore, digits_in, value, with_digit, bit_digit}
+use Rattle.tsm_parse.specs.Constants.{digit_value, is_underscore, digits_in, with_digit, bit_digit}
 
 -- the total and the digits behind it
 abbrev pub value_after : ℕ → ℕ → List ℕ → ℕ

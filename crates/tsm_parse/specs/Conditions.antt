@@ -1,15 +1,14 @@
 -- The grammar of conditions (UG908, trigger state machine language).
-use Rattle.std.specs.Prelude.{ℕ, zero, suc, Bool, true, false, List, [], ◌∷◌, ◌++◌, length, Option, Some, None, ◌≡◌, ◌⊎◌, unwrap_or}
+use Rattle.std.specs.Prelude.{ℕ, zero, suc, Bool, true, false, List, [], ◌∷◌, None, unwrap_or}
 use Rattle.ila_base.specs.declared.compare.Op.{Op}
 use Rattle.ila_base.specs.declared.compare.Op.TheVariants.{Eq, Ne, Lt, Le, Gt, Ge}
-use Rattle.grammar.specs.Rule.{Rule, term, token, pure, ◌>>=◌, either, repeat, list}
+use Rattle.grammar.specs.Rule.{Rule, term, token, pure, ◌>>=◌, either, list}
 use Rattle.tsm_parse.specs.declared.parts.Named.{Named}
 use Rattle.tsm_parse.specs.declared.parts.Valued.{Valued}
 use Rattle.tsm_parse.specs.declared.token.Sort.{Sort}
 use Rattle.tsm_parse.specs.declared.token.Sort.TheVariants.{Name, Register, Constant, LeftParenthesis, RightParenthesis, Equal, NotEqual, Less, LessEqual, Greater, GreaterEqual, AndAnd, OrOr}
 use Rattle.tsm_parse.specs.declared.types.AstFormula.{AstFormula}
 use Rattle.tsm_parse.specs.declared.types.AstFormula.TheVariants.{Test, All, Any}
-use Rattle.tsm_parse.specs.declared.types.AstTest.{AstTest}
 use Rattle.tsm_parse.specs.declared.types.Constant.{Constant as ConstantOf}
 use Rattle.tsm_parse.specs.Constants.{constant_of}
 use Rattle.tsm_parse.specs.Lexemes.{Lexeme, is, of_sort}

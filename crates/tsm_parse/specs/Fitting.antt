@@ -2,7 +2,7 @@
 use Rattle.std.specs.Prelude.{ℕ, Bool, true, false, ◌&&◌, nat_le, List, ◌++◌, take, drop, replicate, if◌then◌else◌, Option, Some, None}
 use Rattle.std.specs.List.{list_all}
 use Rattle.ila_base.specs.declared.compare.Digit.{Digit}
-use Rattle.ila_base.specs.declared.compare.Digit.TheVariants.{Zero, One, Any, Rise, Fall, Both, Steady}
+use Rattle.ila_base.specs.declared.compare.Digit.TheVariants.{Zero}
 use Rattle.tsm_parse.specs.declared.types.Constant.{Constant}
 
 abbrev pub is_zero : Digit → Bool

@@ -61,3 +61,6 @@ of_sort test t = test t.sort
 abbrev pub AreWithin : ℕ → List Token → Type 0
 AreWithin n [] = Unit {0}
 AreWithin n (token ∷ tokens) = (token.start < token.end) × (token.end ≤ n) × AreWithin n tokens
+
+abbrev pub place_of : Lexeme → Place
+place_of t = t.place

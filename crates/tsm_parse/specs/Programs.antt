@@ -1,11 +1,10 @@
 -- The grammar of trigger programs (UG908, trigger state machine language), and which tree a text stands for.
-use Rattle.std.specs.Prelude.{ℕ, Bool, true, false, List, [], ◌∷◌, ◌++◌, length, Option, Some, None, Result, IfOk, ◌≡◌, ◌⊎◌}
+use Rattle.std.specs.Prelude.{ℕ, Bool, true, false, List, [], ◌∷◌, ◌++◌, Option, Some, None, Result, IfOk, ◌≡◌}
 use Rattle.ila_base.specs.declared.memory.NoMemory.{NoMemory}
 use Rattle.ila_base.specs.declared.place.Place.{Place}
-use Rattle.grammar.specs.Rule.{Rule, term, token, pure, end, ◌>>=◌, either, repeat, optional}
+use Rattle.grammar.specs.Rule.{Rule, term, pure, end, ◌>>=◌, either, repeat, optional}
 use Rattle.tsm_parse.specs.declared.parts.Body.{Body}
 use Rattle.tsm_parse.specs.declared.parts.Branch.{Branch}
-use Rattle.tsm_parse.specs.declared.parts.Named.{Named}
 use Rattle.tsm_parse.specs.declared.token.Sort.{Sort}
 use Rattle.tsm_parse.specs.declared.token.Sort.TheVariants.{State, If, Then, ElseIf, Else, EndIf, Goto, Trigger, SetFlag, ClearFlag, IncrementCounter, ResetCounter, Colon, Semicolon}
 use Rattle.tsm_parse.specs.declared.token.Token.{Token}

@@ -1,9 +1,11 @@
 -- What a trigger program is cut into: its tokens, each the longest that fits, up to the first byte that begins none.
-use Rattle.std.specs.Prelude.{◌≡◌, ◌≢◌, ℕ, ◌+◌, ◌<◌, ◌≤◌, Bool, true, false, List, [], ◌∷◌, ◌++◌, length, take, count_by, slice_range, codes, Option, Some, None, ◌⊎◌}
-use Rattle.std.specs.List.{suffix_len, AllPass, prefix_len}
+use Rattle.std.specs.Prelude.{◌≡◌, ◌≢◌, ℕ, ◌+◌, ◌<◌, ◌≤◌, true, false, List, [], ◌∷◌, ◌++◌, length, take, count_by, slice_range, codes, Option, Some, None}
+use Rattle.std.specs.List.{suffix_len, prefix_len}
 use Rattle.ila_base.specs.declared.place.Place.{Place}
-use Rattle.tsm_parse.specs.declared.token.Sort.{Sort}
+use Rattle.ila_base.specs.declared.refusal.TsmRefusal.TheVariants.{BadByte}
 use Rattle.tsm_parse.specs.declared.token.Token.{Token}
+use Rattle.tsm_parse.specs.declared.types.TsmStop.{TsmStop}
+use Rattle.tsm_parse.specs.declared.types.TsmStop.TheVariants.{Refused, NoMemory}
 use Rattle.tsm_parse.specs.Words.{is_blank, is_newline, is_in_line, is_token, sort_of}
 
 -- before rest the bytes go to the end of the line
@@ -46,3 +48,25 @@ pub data Cuts : List ℕ → List ℕ → List Token → Option Place → Type 0
   takes : {before text : List ℕ} {tokens : List Token} {fault : Option Place} (bytes rest : List ℕ) (more : List Token) → text ≡ bytes ++ rest → IsLongest text (length bytes)
       → tokens ≡ token_behind before bytes ∷ more → Cuts (before ++ bytes) rest more fault → Cuts before text tokens fault
   stops : {before text : List ℕ} {tokens : List Token} {fault : Option Place} → BeginsNothing text → tokens ≡ [] → fault ≡ Some (place_behind before) → Cuts before text tokens fault
+
+-- the call stopped at a byte that begins nothing, at a place of which P holds, or since memory was not found
+abbrev pub StopsAt : (Place → Type 0) → TsmStop → Type 0
+StopsAt P (Refused fault) = (fault.refusal ≡ BadByte) × P fault.place
+StopsAt P NoMemory = Unit {0}
+
+-- the token has bytes, and they are among the first n
+abbrev pub IsWithin : ℕ → Token → Type 0
+IsWithin n token = (token.start < token.end) × (token.end ≤ n)
+
+-- each token stands behind the end of the one before it, the first from there on
+abbrev pub RiseFrom : ℕ → List Token → Type 0
+RiseFrom from [] = Unit {0}
+RiseFrom from (token ∷ tokens) = (from ≤ token.start) × RiseFrom token.end tokens
+
+abbrev pub bytes_in : List ℕ → Token → List ℕ
+bytes_in text token = slice_range text token.start token.end
+
+-- the bytes of the token are one, and the sort is theirs
+pub record IsTokenIn (text : List ℕ) (token : Token) : Type 0 where
+  pub token_there : is_token (bytes_in text token) ≡ true
+  pub sorted : token.sort ≡ sort_of (bytes_in text token)

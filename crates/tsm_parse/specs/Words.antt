@@ -1,6 +1,6 @@
 -- The tokens of trigger programs: words, registers, constants and marks, what they are to the grammar, and what stands between
 -- them (UG908, trigger state machine language).
-use Rattle.std.specs.Prelude.{◌≡◌, ℕ, ◌+◌, Bool, true, false, not, ◌&&◌, ◌||◌, ◌==◌, is_some, List, [], ◌∷◌, map, if◌then◌else◌, codes}
+use Rattle.std.specs.Prelude.{ℕ, ◌+◌, Bool, false, not, ◌&&◌, ◌||◌, ◌==◌, is_some, List, [], ◌∷◌, map, if◌then◌else◌, codes}
 use Rattle.std.specs.List.{list_all}
 use Rattle.std.specs.Str.{bytes_eq}
 use Rattle.tsm_parse.specs.declared.token.Sort.{Sort}

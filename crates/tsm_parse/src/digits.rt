@@ -78,7 +78,8 @@ fn are_places(base: Base, bytes: &[u8]) -> bool
     bytes.iter().all(|byte| is_place(base, *byte))
 }
 
-fn begins_as(base: Base, bytes: &[u8]) -> bool
+/// Whether the first byte is a digit of the base.
+pub fn begins_as(base: Base, bytes: &[u8]) -> bool
     ensures { result ≡ constants.passes_at (constants.is_digit base) bytes.now 0 }
 {
     match bytes.first() {

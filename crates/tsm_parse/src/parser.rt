@@ -1,6 +1,7 @@
 ghost use Rattle.std.specs.Prelude.{◌≡◌, [], ◌↔◌, IsTrue, IfOk, length, ◌<◌, ◌≤◌, slice_range};
-ghost use Rattle.grammar.specs.Rule.{looks, end};
-ghost use Rattle.tsm_parse.specs.Lexemes.{is, of_sort};
+ghost use Rattle.std.specs.Option.{option_map};
+ghost use Rattle.grammar.specs.Rule.{looks, first, end};
+ghost use Rattle.tsm_parse.specs.Lexemes.{is, of_sort, lexemes, place_of, AreWithin};
 ghost use Rattle.tsm_parse.specs.Conditions.{mark, name, register, left, constant, constant_of_bytes, operator};
 ghost use Rattle.tsm_parse.specs.Programs.{is_act, act};
 ghost use Rattle.tsm_parse.specs.Giving.{Gives};
@@ -10,7 +11,7 @@ use crate::parts::{Named, Valued};
 use crate::stop::Stop;
 use crate::token::{Sort, Token};
 use crate::types::{Act, Constant};
-use ila_base::{Digits, Name, NoMemory, Op};
+use ila_base::{Digits, Name, NoMemory, Op, Place};
 use std::alloc::Global;
 use std::marker::Model;
 
@@ -18,8 +19,8 @@ use std::marker::Model;
 /// where the grammar refuses a token, the parser is left standing there.
 #[derive(Drop)]
 pub struct Parser<'a> {
-    pub text: &'a [u8],
-    pub rest: &'a [Token],
+    text: &'a [u8],
+    rest: &'a [Token],
 }
 
 impl<'a> Model for Parser<'a> {
@@ -56,6 +57,24 @@ fn constant_of(alloc: Global, bytes: &[u8]) -> Result<Constant, NoMemory>
 }
 
 impl<'a> Parser<'a> {
+    /// All of a program's tokens are left.
+    pub fn new(text: &'a [u8], tokens: &'a [Token]) -> Parser<'a>
+        requires { AreWithin (length text.now) tokens.now }
+        ensures { result ≡ lexemes text.now tokens.now }
+    {
+        Parser { text, rest: tokens }
+    }
+
+    /// The place of the next token, if there is one.
+    pub fn place(&self) -> Option<Place>
+        ensures { result ≡ option_map place_of (first self.now) }
+    {
+        match self.rest.first() {
+            Some(token) => Some(token.place),
+            None => None,
+        }
+    }
+
     /// Whether the next token is of the sort.
     pub fn sees(&self, sort: Sort) -> bool
         ensures { result ≡ looks (is sort) self.now }

@@ -1,4 +1,4 @@
-use Rattle.std.proofs.Common.{◌≡◌, refl}
+use Rattle.std.proofs.Common.{refl}
 use Rattle.tsm_parse.proofs.Values.{one_more_digit}
 use Rattle.tsm_parse.proofs.fitting.fitted.Goals as goal
 
