@@ -8,3 +8,5 @@ pub mod BoundLaws
 pub mod RepeatLaws
 pub mod ListLaws
 pub mod NestLaws
+pub mod SortLaws
+pub mod LoopLaws

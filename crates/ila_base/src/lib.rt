@@ -1,8 +1,9 @@
 //! What every crate of the product speaks of: names, places and words of a netlist text, the
-//! refusals with their numbers, and the sources, sinks and shelves through which a command meets
+//! refusals with their numbers, comparisons of probes, and the sources, sinks and shelves through which a command meets
 //! the outside.
 #![tactic(auto)]
 
+mod compare;
 mod items;
 mod mem_shelf;
 mod mem_sink;
@@ -16,6 +17,7 @@ mod schedule;
 #[cfg(test)]
 mod tests;
 
+pub use compare::{BasicCond, Compare, Digit, Digits, Join, Op, ProbeInfo};
 pub use items::Items;
 pub use mem_shelf::MemShelf;
 pub use mem_sink::MemSink;

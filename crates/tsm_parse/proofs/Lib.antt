@@ -1,0 +1,15 @@
+pub mod ConstantLaws
+pub mod CuttingLaws
+pub mod FrontLaws
+pub mod LongestLaws
+pub mod PartLaws
+pub mod PieceLaws
+pub mod ProgramLaws
+pub mod Scanning
+pub mod ShapeLaws
+pub mod SortLaws
+pub mod SourceLaws
+pub mod SpanLaws
+pub mod StepLaws
+pub mod TokenLaws
+pub mod Values

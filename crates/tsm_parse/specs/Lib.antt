@@ -1,0 +1,10 @@
+pub mod Constants
+pub mod Fitting
+pub mod Words
+pub mod Tokens
+pub mod Reading
+pub mod Lexemes
+pub mod Conditions
+pub mod Programs
+pub mod Giving
+pub mod Refusals
