@@ -1,0 +1,8 @@
+//! The checks of a netlist's names, pins and widths: of all findings the first one (IEEE 1364-2005,
+//! clauses 4, 5, 6, 7 and 12; UG953 for the primitives' pins and parameters).
+#![tactic(auto)]
+
+mod found;
+mod names;
+mod primitive;
+mod table;
