@@ -4,7 +4,6 @@ use Rattle.std.specs.Prelude.{ℕ, ◌^◌, Bool, true, false, ◌&&◌, ◌||�
 use Rattle.std.specs.List.{list_any}
 use Rattle.std.specs.Option.{option_map_or}
 use Rattle.std.specs.Str.{bytes_eq}
-use Rattle.ila_base.specs.declared.place.Word.{Word}
 use Rattle.vlog_parse.specs.declared.tree.Dir.{Dir}
 use Rattle.vlog_parse.specs.declared.tree.Dir.TheVariants.{Input, Output}
 use Rattle.vlog_parse.specs.declared.tree.Value.{Value}

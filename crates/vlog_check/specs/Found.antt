@@ -1,10 +1,9 @@
 -- Findings, the order in which they count, and the first of many.
-use Rattle.std.specs.Prelude.{◌≡◌, ℕ, ◌<◌, Bool, true, false, List, [], ◌∷◌, slice_get, if◌then◌else◌, Option, Some, None, ◌⊎◌}
+use Rattle.std.specs.Prelude.{◌≡◌, ℕ, Bool, true, false, List, [], ◌∷◌, slice_get, if◌then◌else◌, Option, Some, None}
 use Rattle.std.specs.Cmp.Lexicographic.{slice_cmp}
 use Rattle.std.specs.Ordering.{nat_cmp, is_gt}
-use Rattle.ila_base.specs.declared.place.Place.{Place}
 use Rattle.ila_base.specs.declared.refusal.NetRefusal.{NetRefusal}
-use Rattle.ila_base.specs.declared.refusal.NetRefusal.TheVariants.{BadByte, Construct, Syntax, Duplicate, Undeclared, UnknownModule, Pin, Width, OpenInput, ManyDrivers, Undriven, Recursion, TopOrClock, SecondClock, ClockAsData, XZ, Limit, Loop}
+use Rattle.ila_base.specs.declared.refusal.NetRefusal.TheVariants.{Duplicate, Undeclared, UnknownModule, Pin, Width, OpenInput}
 use Rattle.vlog_check.specs.declared.found.Detail.{Detail}
 use Rattle.vlog_check.specs.declared.found.Detail.TheVariants.{Alone, Parameter, Connection, NoParameter, NoPin}
 use Rattle.vlog_check.specs.declared.found.Found.{Found}

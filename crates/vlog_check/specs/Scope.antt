@@ -1,5 +1,5 @@
 -- What a name stands for: look-ups in the text order, in which the first mention counts. All of them answer for every name.
-use Rattle.std.specs.Prelude.{ℕ, ◌+◌, ◌-◌, ◌==◌, nat_lt, nat_le, Bool, true, false, not, ◌&&◌, ◌||◌, is_some, is_none, List, [], ◌∷◌, ◌++◌, map, find, filter_map, sum_by, length, slice_get, codes, decimal, Option, Some, None, option_and_then, if◌then◌else◌}
+use Rattle.std.specs.Prelude.{ℕ, ◌+◌, ◌-◌, nat_lt, nat_le, Bool, true, false, ◌&&◌, ◌||◌, is_some, List, [], ◌∷◌, ◌++◌, map, find, filter_map, sum_by, length, slice_get, codes, decimal, Option, Some, None, option_and_then, if◌then◌else◌}
 use Rattle.std.specs.List.{list_any, list_all}
 use Rattle.std.specs.Map.{lookup}
 use Rattle.std.specs.Option.{option_map, option_map_or}
@@ -9,7 +9,6 @@ use Rattle.vlog_parse.specs.declared.tree.Tree.{Tree}
 use Rattle.vlog_parse.specs.declared.tree.Module.{Module}
 use Rattle.vlog_parse.specs.declared.tree.Item.{Item}
 use Rattle.vlog_parse.specs.declared.tree.Item.TheVariants as items
-use Rattle.vlog_parse.specs.declared.tree.Decl.{Decl}
 use Rattle.vlog_parse.specs.declared.tree.Dir.{Dir}
 use Rattle.vlog_parse.specs.declared.tree.Dir.TheVariants.{Input, Output}
 use Rattle.vlog_parse.specs.declared.tree.Range.{Range}

@@ -1,4 +1,4 @@
-use Rattle.std.proofs.Common.{◌≡◌, true, false, is_some, sym, ap, ◌∙◌, Some, None, cond}
+use Rattle.std.proofs.Common.{◌≡◌, true, is_some, sym, ap, ◌∙◌, Some, None, cond}
 use Rattle.std.specs.Str.{bytes_eq}
 use Rattle.std.specs.Map.{lookup}
 use Rattle.std.specs.Option.{option_or}
