@@ -1,1 +1,3 @@
 pub mod TableLaws
+pub mod LeastLaws
+pub mod ReadingLaws

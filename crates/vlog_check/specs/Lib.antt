@@ -5,3 +5,4 @@ pub mod FindingNames
 pub mod FindingWidths
 pub mod FindingPins
 pub mod Checked
+pub mod Names

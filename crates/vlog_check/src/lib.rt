@@ -2,7 +2,9 @@
 //! clauses 4, 5, 6, 7 and 12; UG953 for the primitives' pins and parameters).
 #![tactic(auto)]
 
+mod expr;
 mod found;
 mod names;
 mod primitive;
+mod spell;
 mod table;

@@ -1,0 +1,37 @@
+-- What is kept of a module's names, and of an expression that was read.
+use Rattle.std.specs.Prelude.{◌≡◌, ℕ, min, ◌+◌, ◌-◌, ◌*◌, ◌&&◌, ◌||◌, ◌^◌, ◌≤◌, List, [], ◌∷◌, length, sum_by, Option, Some, None}
+use Rattle.std.specs.List.{list_all, list_any}
+use Rattle.std.specs.Option.{option_or}
+use Rattle.ila_base.specs.declared.place.Place.{Place}
+use Rattle.vlog_parse.specs.declared.tree.Module.{Module}
+use Rattle.vlog_parse.specs.Leaves.{Leaf}
+use Rattle.vlog_check.specs.declared.names.Names.{Names}
+use Rattle.vlog_check.specs.declared.expr.Reading.{Reading}
+use Rattle.vlog_check.specs.Found.{IsLeastFinding, FindsAmong, earlier}
+use Rattle.vlog_check.specs.Scope.{value_of, number_among, directed, range_of, leaf_width, is_declared, is_fixed, leaf_place}
+use Rattle.vlog_check.specs.FindingWidths.{FindsLeaf}
+
+-- the tables answer as the module's text does
+pub record IsNames (names : Names) : Type 0 where
+  pub ports : (name : List ℕ) → value_of names.ports name ≡ number_among names.module.now.ports name
+  pub ranges : (name : List ℕ) → value_of names.ranges name ≡ range_of names.module.now name
+  pub directed_ports : (name : List ℕ) → value_of names.directed name ≡ value_of (directed names.module.now.items) name
+
+-- the place of the first leaf, if there is one
+abbrev pub head_place : List Leaf → Option Place
+head_place [] = None
+head_place (leaf ∷ more) = Some (leaf_place leaf)
+
+-- what is kept of these leaves of a module: the first place, the width as far as it is below 2 to the 64, whether all are declared, whether one is a constant, and
+-- the first that isn't declared
+pub record IsReading (m : Module) (leaves : List Leaf) (r : Reading) : Type 0 where
+  pub first : r.place ≡ head_place leaves
+  pub bits : r.width ≡ min (sum_by (leaf_width m) leaves) (2 ^ 64 - 1)
+  pub bound : sum_by (leaf_width m) leaves ≤ 2 ^ 32 * length leaves
+  pub all : r.sound ≡ list_all (is_declared m) leaves
+  pub any : r.fixed ≡ list_any is_fixed leaves
+  pub least : IsLeastFinding (FindsAmong (λ k leaf f. FindsLeaf m leaf f) leaves) r.found
+
+-- what is kept of two runs of leaves, one behind the other
+abbrev pub joined : Reading → Reading → Reading
+joined a b = record { place = option_or a.place b.place; width = min (a.width + b.width) (2 ^ 64 - 1); sound = a.sound && b.sound; fixed = a.fixed || b.fixed; found = earlier a.found b.found }
