@@ -1,11 +1,12 @@
 -- The least of findings, put together from the least of parts of them.
-use Rattle.std.proofs.Common.{◌≡◌, ℕ, ◌+◌, ◌<◌, ◌≤◌, Bool, true, false, cond, List, [], ◌∷◌, length, Option, Some, None, slice_get, refl, ap, sym, subst, ◌∙◌, true≢false, inl, inr, ◌⊎◌, ⊎_elim, arith}
+use Rattle.std.proofs.Common.{◌≡◌, ℕ, ◌+◌, ◌<◌, ◌≤◌, Bool, true, false, cond, List, [], ◌∷◌, ◌++◌, length, take, get_or, Option, Some, None, slice_get, refl, ap, sym, subst, ◌∙◌, true≢false, inl, inr, ◌⊎◌, ⊎_elim, arith}
 use Rattle.std.specs.Cmp.Lexicographic.{slice_cmp}
 use Rattle.std.specs.Ordering.{nat_cmp, is_gt, ordering_reverse}
 use Rattle.std.specs.declared.cmp.Ordering.{Ordering}
 use Rattle.std.specs.declared.cmp.Ordering.TheVariants.{Less, Equal, Greater}
 use Rattle.std.proofs.lemmas.Cmp.{nat_list_cmp_total, upto, tied_itself}
-use Rattle.std.proofs.lemmas.Option.{slice_get_within, same_Some}
+use Rattle.std.proofs.lemmas.List.{take_more}
+use Rattle.std.proofs.lemmas.Option.{slice_get_within, slice_get_read, same_Some}
 use Rattle.vlog_check.specs.declared.found.Found.{Found}
 use Rattle.vlog_check.specs.Found.{key_of, is_later, NoLater, earlier, IsLeastFinding, FindsAmong, FindsIf}
 
@@ -79,12 +80,15 @@ module _ {X : Type 0} (F : ℕ → X → Found → Type 0) (xs : List X) where
       to : (f : Found) → FindsBelow F xs i f ⊎ F i x f → FindsBelow F xs (i + 1) f
       to f (inl h) = (h.0, h.1, omega (arith, h.2), h.3, h.4)
       to f (inr h) = (i, x, omega arith, at, h)
+
       at_last : (f : Found) (k : ℕ) (y : X) → k ≡ i → slice_get xs k ≡ Some y → F k y f → F i x f
       at_last f k y same there h =
           let own : F i y f = subst (λ j. F j y f) same h in
           subst (λ z. F i z f) (same_Some y x (sym there ∙ ap (slice_get xs) same ∙ at)) own
+
       split : (k : ℕ) → k < i + 1 → (k < i) ⊎ (k ≡ i)
       split k low = grind arith
+
       from : (f : Found) → FindsBelow F xs (i + 1) f → FindsBelow F xs i f ⊎ F i x f
       from f h = ⊎_elim (λ low. inl (h.0, h.1, low, h.3, h.4)) (λ same. inr (at_last f h.0 h.1 same h.3 h.4)) (split h.0 h.2)
 
@@ -92,3 +96,25 @@ module _ {X : Type 0} (F : ℕ → X → Found → Type 0) (xs : List X) where
   least_all n best end below = least_as (FindsBelow F xs n) (FindsAmong F xs) best
       (λ f h. (h.0, h.1, h.3, h.4))
       (λ f h. (h.0, h.1, omega (arith, slice_get_within xs h.0 h.1 h.2), h.2, h.3)) below
+
+-- A loop over a slice of the list
+
+pub at_index : {X : Type 0} (ys xs : List X) (i : ℕ) (x : X) → ys ≡ xs → i < length ys → x ≡ get_or ys i x → slice_get xs i ≡ Some x
+at_index ys xs i x same low is = ap (λ zs. slice_get zs i) (sym same) ∙ slice_get_read ys (length ys) i x refl low is
+
+pub take_step : {X : Type 0} (ys xs : List X) (i : ℕ) (x : X) → ys ≡ xs → i < length ys → x ≡ get_or ys i x → take i xs ++ x ∷ [] ≡ take (i + 1) xs
+take_step ys xs i x same low is = ap (λ zs. take i zs ++ x ∷ []) (sym same) ∙ ap (λ z. take i ys ++ z ∷ []) is ∙ sym (take_more ys i x low) ∙ ap (take (i + 1)) same
+
+pub least_step : {X : Type 0} (F : ℕ → X → Found → Type 0) (ys xs : List X) (i : ℕ) (x : X) (best here new : Option Found) → ys ≡ xs → i < length ys → x ≡ get_or ys i x
+    → IsLeastFinding (FindsBelow F xs i) best → IsLeastFinding (F i x) here → new ≡ earlier best here → IsLeastFinding (FindsBelow F xs (i + 1)) new
+least_step F ys xs i x best here new same low is below own joined =
+    subst (IsLeastFinding (FindsBelow F xs (i + 1))) (sym joined) (least_more F xs i x best here (at_index ys xs i x same low is) below own)
+
+pub least_end : {X : Type 0} (F : ℕ → X → Found → Type 0) (ys xs : List X) (i : ℕ) (best : Option Found) → ys ≡ xs → length ys ≤ i
+    → IsLeastFinding (FindsBelow F xs i) best → IsLeastFinding (FindsAmong F xs) best
+least_end F ys xs i best same end below = least_all F xs i best (omega (arith, ap length same)) below
+
+-- The least of several parts
+
+pub least_joined : (F G : Found → Type 0) (a b new : Option Found) → IsLeastFinding F a → IsLeastFinding G b → new ≡ earlier a b → IsLeastFinding (λ f. F f ⊎ G f) new
+least_joined F G a b new p q is = subst (IsLeastFinding (λ f. F f ⊎ G f)) (sym is) (least_both F G a b p q)

@@ -1,3 +1,4 @@
 pub mod TableLaws
 pub mod LeastLaws
 pub mod ReadingLaws
+pub mod NameLaws

@@ -74,6 +74,7 @@ module _ {X : Type 0} (F : X → Found → Type 0) where
       to : (f : Found) → FindsAmong (λ k x g. F x g) xs f ⊎ FindsAmong (λ k x g. F x g) ys f → FindsAmong (λ k x g. F x g) (xs ++ ys) f
       to f (inl h) = let j = among_left xs ys h.0 h.1 h.2 in (j.0, h.1, j.1, h.3)
       to f (inr h) = let j = among_right xs ys h.0 h.1 h.2 in (j.0, h.1, j.1, h.3)
+
       from : (f : Found) → FindsAmong (λ k x g. F x g) (xs ++ ys) f → FindsAmong (λ k x g. F x g) xs f ⊎ FindsAmong (λ k x g. F x g) ys f
       from f h = ⊎_elim (λ j. inl (j.0, h.1, j.1, h.3)) (λ j. inr (j.0, h.1, j.1, h.3)) (among_split xs ys h.0 h.1 h.2)
 
@@ -93,14 +94,14 @@ module _ {X : Type 0} (F : X → Found → Type 0) where
 pub reading_declared : (m : Module) (leaf : Leaf) (r : Reading) → is_declared m leaf ≡ true → r.place ≡ Some (leaf_place leaf) → r.width ≡ leaf_width m leaf → r.width ≤ 2 ^ 32
     → r.sound ≡ true → r.fixed ≡ is_fixed leaf → r.found ≡ None → IsReading m (leaf ∷ []) r
 reading_declared m leaf r known first bits small sound fixed none = record {
-    first = first;
-    bits = omega (arith, zero-add (leaf_width m leaf));
-    bound = omega (arith, zero-add (leaf_width m leaf));
-    all = sound ∙ sym (ap (λ b. b && true) known);
-    any = fixed ∙ or_false (is_fixed leaf);
-    least = subst (IsLeastFinding (FindsAmong (λ k l f. FindsLeaf m l f) (leaf ∷ []))) (sym none)
+  first = first;
+  bits = omega (arith, zero-add (leaf_width m leaf));
+  bound = omega (arith, zero-add (leaf_width m leaf));
+  all = sound ∙ sym (ap (λ b. b && true) known);
+  any = fixed ∙ or_false (is_fixed leaf);
+  least = subst (IsLeastFinding (FindsAmong (λ k l f. FindsLeaf m l f) (leaf ∷ []))) (sym none)
       (least_single (FindsLeaf m) leaf None (least_unless (not (is_declared m leaf)) (finding (leaf_place leaf) Alone (refusals.Undeclared (leaf_text leaf))) (ap not known)));
-  }
+}
   where
     or_false : (b : Bool) → b ≡ (b || false)
     or_false true = refl
@@ -111,14 +112,14 @@ pub reading_undeclared : (m : Module) (leaf : Leaf) (r : Reading) → is_declare
     → r.sound ≡ false → r.fixed ≡ is_fixed leaf
     → r.found ≡ Some (record { place = leaf_place leaf; subject = 0; detail = Alone; refusal = refusals.Undeclared (leaf_text leaf) }) → IsReading m (leaf ∷ []) r
 reading_undeclared m leaf r unknown first bits small sound fixed some = record {
-    first = first;
-    bits = omega (arith, zero-add (leaf_width m leaf));
-    bound = omega (arith, zero-add (leaf_width m leaf));
-    all = sound ∙ sym (ap (λ b. b && true) unknown);
-    any = fixed ∙ or_false (is_fixed leaf);
-    least = subst (IsLeastFinding (FindsAmong (λ k l f. FindsLeaf m l f) (leaf ∷ []))) (sym some)
+  first = first;
+  bits = omega (arith, zero-add (leaf_width m leaf));
+  bound = omega (arith, zero-add (leaf_width m leaf));
+  all = sound ∙ sym (ap (λ b. b && true) unknown);
+  any = fixed ∙ or_false (is_fixed leaf);
+  least = subst (IsLeastFinding (FindsAmong (λ k l f. FindsLeaf m l f) (leaf ∷ []))) (sym some)
       (least_single (FindsLeaf m) leaf (Some (finding (leaf_place leaf) Alone (refusals.Undeclared (leaf_text leaf)))) (least_where (not (is_declared m leaf)) (finding (leaf_place leaf) Alone (refusals.Undeclared (leaf_text leaf))) (ap not unknown)));
-  }
+}
   where
     or_false : (b : Bool) → b ≡ (b || false)
     or_false true = refl
@@ -127,13 +128,13 @@ reading_undeclared m leaf r unknown first bits small sound fixed some = record {
 -- leaves one behind the other
 pub reading_joined : (m : Module) (xs ys : List Leaf) (a b : Reading) → IsReading m xs a → IsReading m ys b → IsReading m (xs ++ ys) (joined a b)
 reading_joined m xs ys a b p q = record {
-    first = ap (λ o. option_or o b.place) p.first ∙ ap (option_or (head_place xs)) q.first ∙ heads xs;
-    bits = omega (arith, p.bits, q.bits, sum_by-append (leaf_width m) xs ys);
-    bound = omega (arith, p.bound, q.bound, length-append xs ys, sum_by-append (leaf_width m) xs ys);
-    all = ap (λ s. s && b.sound) p.all ∙ ap (λ s. list_all (is_declared m) xs && s) q.all ∙ sym (list_all-append (is_declared m) xs ys);
-    any = ap (λ s. s || b.fixed) p.any ∙ ap (λ s. list_any is_fixed xs || s) q.any ∙ sym (list_any-append is_fixed xs ys);
-    least = least_append (FindsLeaf m) xs ys a.found b.found p.least q.least;
-  }
+  first = ap (λ o. option_or o b.place) p.first ∙ ap (option_or (head_place xs)) q.first ∙ heads xs;
+  bits = omega (arith, p.bits, q.bits, sum_by-append (leaf_width m) xs ys);
+  bound = omega (arith, p.bound, q.bound, length-append xs ys, sum_by-append (leaf_width m) xs ys);
+  all = ap (λ s. s && b.sound) p.all ∙ ap (λ s. list_all (is_declared m) xs && s) q.all ∙ sym (list_all-append (is_declared m) xs ys);
+  any = ap (λ s. s || b.fixed) p.any ∙ ap (λ s. list_any is_fixed xs || s) q.any ∙ sym (list_any-append is_fixed xs ys);
+  least = least_append (FindsLeaf m) xs ys a.found b.found p.least q.least;
+}
   where
     heads : (zs : List Leaf) → option_or (head_place zs) (head_place ys) ≡ head_place (zs ++ ys)
     heads [] = refl
@@ -142,13 +143,13 @@ reading_joined m xs ys a b p q = record {
 -- nothing read yet
 pub reading_empty : (m : Module) (r : Reading) → r.place ≡ None → r.width ≡ 0 → r.sound ≡ true → r.fixed ≡ false → r.found ≡ None → IsReading m [] r
 reading_empty m r first bits sound fixed none = record {
-    first = first;
-    bits = omega arith;
-    bound = omega arith;
-    all = sound;
-    any = fixed;
-    least = subst (IsLeastFinding (FindsAmong (λ k l f. FindsLeaf m l f) [])) (sym none) (λ f h. none_some h.1 h.2);
-  }
+  first = first;
+  bits = omega arith;
+  bound = omega arith;
+  all = sound;
+  any = fixed;
+  least = subst (IsLeastFinding (FindsAmong (λ k l f. FindsLeaf m l f) [])) (sym none) (λ f h. none_some h.1 h.2);
+}
   where
     none_some : (y : Leaf) → None ≡ Some y → ⊥
     none_some y e = cc

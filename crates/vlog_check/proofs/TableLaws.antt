@@ -51,9 +51,11 @@ lookup-known {X} es name value known other = by (bytes_eq other name) refl
     same_some : (o p : Option X) → is_some o ≡ true → o ≡ option_or o p
     same_some None p e = absurd (true≢false (sym e))
     same_some (Some x) p e = refl
+
     none : (o : Option X) → o ≡ option_or o None
     none None = refl
     none (Some x) = refl
+
     by : (b : Bool) → bytes_eq other name ≡ b → value_of es other ≡ option_or (value_of es other) (cond b (Some value) None)
     by true e = same_some (value_of es other) (Some value) (ap (λ n. is_some (value_of es n)) ((bytes_eq-Decides other name).0 e) ∙ known)
     by false e = none (value_of es other)

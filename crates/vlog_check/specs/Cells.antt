@@ -10,6 +10,7 @@ use Rattle.vlog_parse.specs.declared.tree.Value.{Value}
 use Rattle.vlog_parse.specs.declared.tree.Value.TheVariants.{Whole, Sized, Text}
 use Rattle.vlog_check.specs.declared.primitive.Primitive.{Primitive}
 use Rattle.vlog_check.specs.declared.primitive.Primitive.TheVariants.{Lut1, Lut2, Lut3, Lut4, Lut5, Lut6, Inv, Ibuf, Obuf, Bufg, Gnd, Vcc, Muxf7, Muxf8, Carry4, Fdre, Fdse, Fdce, Fdpe, Mem}
+use Rattle.vlog_check.specs.declared.primitive.CellPin.{CellPin}
 use Rattle.vlog_check.specs.declared.primitive.Size.{Size}
 use Rattle.vlog_check.specs.declared.primitive.Size.TheVariants.{One, Four, Address, Data}
 
@@ -26,6 +27,9 @@ pub record PinRow : Type 0 where
   pub name : List ℕ
   pub way : Dir
   pub size : Size
+
+abbrev pub pin_row : CellPin → PinRow
+pin_row pin = record { name = pin.name.now; way = pin.way; size = pin.size }
 
 abbrev pub input : List ℕ → PinRow
 input name = record { name = name; way = Input; size = One }

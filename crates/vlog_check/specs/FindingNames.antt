@@ -67,8 +67,8 @@ abbrev pub is_declared_again : Module → List Item → Decl → Bool
 is_declared_again m past d =
     is_some (value_of (placed past) d.name)
     || (if is_some d.dir then
-          is_some (value_of (directed past) d.name) || is_in_way (is_port m d.name) (value_of (wired past) d.name) d.range
-        else is_some (value_of (wired past) d.name) || is_in_way (is_port m d.name) (port_range (value_of (directed past) d.name)) d.range)
+    is_some (value_of (directed past) d.name) || is_in_way (is_port m d.name) (value_of (wired past) d.name) d.range
+    else is_some (value_of (wired past) d.name) || is_in_way (is_port m d.name) (port_range (value_of (directed past) d.name)) d.range)
 
 -- whether a gate's or an instance's name can't stand behind these items
 abbrev pub is_placed_again : Module → List Item → List ℕ → Bool

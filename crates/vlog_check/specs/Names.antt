@@ -5,11 +5,24 @@ use Rattle.std.specs.Option.{option_or}
 use Rattle.ila_base.specs.declared.place.Place.{Place}
 use Rattle.vlog_parse.specs.declared.tree.Module.{Module}
 use Rattle.vlog_parse.specs.Leaves.{Leaf}
+use Rattle.vlog_parse.specs.declared.tree.Item.{Item}
 use Rattle.vlog_check.specs.declared.names.Names.{Names}
+use Rattle.vlog_check.specs.declared.names.Past.{Past}
 use Rattle.vlog_check.specs.declared.expr.Reading.{Reading}
 use Rattle.vlog_check.specs.Found.{IsLeastFinding, FindsAmong, earlier}
-use Rattle.vlog_check.specs.Scope.{value_of, number_among, directed, range_of, leaf_width, is_declared, is_fixed, leaf_place}
+use Rattle.vlog_check.specs.Scope.{value_of, number_among, declared, directed, wired, placed, range_of, leaf_width, is_declared, is_fixed, leaf_place}
 use Rattle.vlog_check.specs.FindingWidths.{FindsLeaf}
+
+-- the table has the number of each of the names
+abbrev pub IsNumbering : List (List ℕ × ℕ) → List (List ℕ) → Type 0
+IsNumbering table names = (name : List ℕ) → value_of table name ≡ number_among names name
+
+-- the tables say what the items say
+pub record IsPast (past : Past) (given : List Item) : Type 0 where
+  pub ranges : (name : List ℕ) → value_of past.ranges name ≡ value_of (declared given) name
+  pub directed_ports : (name : List ℕ) → value_of past.directed name ≡ value_of (directed given) name
+  pub wires : (name : List ℕ) → value_of past.wired name ≡ value_of (wired given) name
+  pub places : (name : List ℕ) → value_of past.placed name ≡ value_of (placed given) name
 
 -- the tables answer as the module's text does
 pub record IsNames (names : Names) : Type 0 where

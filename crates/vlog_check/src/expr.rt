@@ -102,12 +102,7 @@ fn undeclared(place: Place, width: u64, text: Name) -> Reading
     }
 }
 
-fn read_whole(
-    alloc: Global,
-    names: &Names,
-    name: &Name,
-    place: Place,
-) -> Result<Reading, NoMemory>
+fn read_whole(alloc: Global, names: &Names, name: &Name, place: Place) -> Result<Reading, NoMemory>
     requires { IsNames names.now }
     ensures { IfOk result (IsReading names.now.module.now (Net name.now place ∷ [])) }
 {

@@ -11,8 +11,8 @@ loop-part-preserved t c =
     let xs = c.as_slice-part-items.result.now in
     let more = parts_more xs c.loop-part.part-index c.part-item.result c.loop-part-test.true c.part-item.is in
     subst (λ ls. IsReading m ls c.join-all.result) (sym more)
-      (subst (IsReading m (flat_map leaves (take c.loop-part.part-index xs) ++ leaves c.part-item.result)) (sym c.join-all.ensures)
-        (reading_joined m (flat_map leaves (take c.loop-part.part-index xs)) (leaves c.part-item.result) c.loop-part.all c.in_ok-next-in-Concat.next c.loop-part.invariant c.in_ok-next-in-Concat.ensures))
+    (subst (IsReading m (flat_map leaves (take c.loop-part.part-index xs) ++ leaves c.part-item.result)) (sym c.join-all.ensures)
+    (reading_joined m (flat_map leaves (take c.loop-part.part-index xs)) (leaves c.part-item.result) c.loop-part.all c.in_ok-next-in-Concat.next c.loop-part.invariant c.in_ok-next-in-Concat.ensures))
 
 pub returns-after-loop-part : goal.returns-after-loop-part
 returns-after-loop-part t c =

@@ -12,6 +12,6 @@ returns c =
     let m = c.args.names.now.module.now in
     let is = c.undeclared.ensures in
     reading_undeclared m (Bit c.args.name.now c.args.index c.args.place) c.undeclared.result
-      (sym c.knows_bit.ensures ∙ c.if-knows_bit.false) (ap (λ (r : Reading). r.place) is) (ap (λ (r : Reading). r.width) is) (omega (arith, ap (λ (r : Reading). r.width) is))
-      (ap (λ (r : Reading). r.sound) is) (ap (λ (r : Reading). r.fixed) is)
-      (ap (λ (r : Reading). r.found) is ∙ ap (λ text. Some (finding c.args.place Alone (refusals.Undeclared text))) c.in_ok-text.ensures)
+    (sym c.knows_bit.ensures ∙ c.if-knows_bit.false) (ap (λ (r : Reading). r.place) is) (ap (λ (r : Reading). r.width) is) (omega (arith, ap (λ (r : Reading). r.width) is))
+    (ap (λ (r : Reading). r.sound) is) (ap (λ (r : Reading). r.fixed) is)
+    (ap (λ (r : Reading). r.found) is ∙ ap (λ text. Some (finding c.args.place Alone (refusals.Undeclared text))) c.in_ok-text.ensures)

@@ -15,6 +15,6 @@ returns-in_ok-text-in-None c =
     let none : range_of m c.args.name.now ≡ None = search (rules, c.requires.ranges c.args.name.now) in
     let is = c.undeclared.ensures in
     reading_undeclared m (Net c.args.name.now c.args.place) c.undeclared.result
-      (ap is_some none) (ap (λ (r : Reading). r.place) is) (ap (λ (r : Reading). r.width) is ∙ sym (ap (λ o. option_map_or range_width o 0) none)) (omega (arith, ap (λ (r : Reading). r.width) is))
-      (ap (λ (r : Reading). r.sound) is) (ap (λ (r : Reading). r.fixed) is)
-      (ap (λ (r : Reading). r.found) is ∙ ap (λ text. Some (finding c.args.place Alone (refusals.Undeclared text))) c.in_ok-text-in-None.ensures)
+    (ap is_some none) (ap (λ (r : Reading). r.place) is) (ap (λ (r : Reading). r.width) is ∙ sym (ap (λ o. option_map_or range_width o 0) none)) (omega (arith, ap (λ (r : Reading). r.width) is))
+    (ap (λ (r : Reading). r.sound) is) (ap (λ (r : Reading). r.fixed) is)
+    (ap (λ (r : Reading). r.found) is ∙ ap (λ text. Some (finding c.args.place Alone (refusals.Undeclared text))) c.in_ok-text-in-None.ensures)
