@@ -118,3 +118,15 @@ least_end F ys xs i best same end below = least_all F xs i best (omega (arith, a
 
 pub least_joined : (F G : Found → Type 0) (a b new : Option Found) → IsLeastFinding F a → IsLeastFinding G b → new ≡ earlier a b → IsLeastFinding (λ f. F f ⊎ G f) new
 least_joined F G a b new p q is = subst (IsLeastFinding (λ f. F f ⊎ G f)) (sym is) (least_both F G a b p q)
+
+-- where the test holds, the answer is the finding
+pub least_found : (holds : Bool) (finding f : Found) → holds ≡ true → f ≡ finding → IsLeastFinding (FindsIf holds finding) (Some f)
+least_found holds finding f is same = subst (λ g. IsLeastFinding (FindsIf holds finding) (Some g)) (sym same) (least_where holds finding is)
+
+pub least_three : (F G H : Found → Type 0) (a b c new inner : Option Found) → IsLeastFinding F a → IsLeastFinding G b → IsLeastFinding H c → inner ≡ earlier b c → new ≡ earlier a inner
+    → IsLeastFinding (λ f. F f ⊎ (G f ⊎ H f)) new
+least_three F G H a b c new inner p q r within is = least_joined F (λ f. G f ⊎ H f) a inner new p (least_joined G H b c inner q r within) is
+
+pub least_four : (F G H I : Found → Type 0) (a b c d new inner last : Option Found) → IsLeastFinding F a → IsLeastFinding G b → IsLeastFinding H c → IsLeastFinding I d
+    → last ≡ earlier c d → inner ≡ earlier b last → new ≡ earlier a inner → IsLeastFinding (λ f. F f ⊎ (G f ⊎ (H f ⊎ I f))) new
+least_four F G H I a b c d new inner last p q r s at_last within is = least_joined F (λ f. G f ⊎ (H f ⊎ I f)) a inner new p (least_three G H I b c d inner last q r s at_last within) is

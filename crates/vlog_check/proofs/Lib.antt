@@ -2,3 +2,4 @@ pub mod TableLaws
 pub mod LeastLaws
 pub mod ReadingLaws
 pub mod NameLaws
+pub mod WidthLaws

@@ -1,16 +1,17 @@
 -- What is kept of a module's names, and of an expression that was read.
-use Rattle.std.specs.Prelude.{◌≡◌, ℕ, min, ◌+◌, ◌-◌, ◌*◌, ◌&&◌, ◌||◌, ◌^◌, ◌≤◌, List, [], ◌∷◌, length, sum_by, Option, Some, None}
+use Rattle.std.specs.Prelude.{◌≡◌, ℕ, min, ◌+◌, ◌-◌, ◌*◌, ◌&&◌, ◌||◌, ◌^◌, ◌≤◌, List, [], ◌∷◌, length, sum_by, slice_get, Option, Some, None}
 use Rattle.std.specs.List.{list_all, list_any}
 use Rattle.std.specs.Option.{option_or}
 use Rattle.ila_base.specs.declared.place.Place.{Place}
 use Rattle.vlog_parse.specs.declared.tree.Module.{Module}
-use Rattle.vlog_parse.specs.Leaves.{Leaf}
+use Rattle.vlog_parse.specs.declared.tree.Expr.{Expr}
+use Rattle.vlog_parse.specs.Leaves.{Leaf, leaves}
 use Rattle.vlog_parse.specs.declared.tree.Item.{Item}
 use Rattle.vlog_check.specs.declared.names.Names.{Names}
 use Rattle.vlog_check.specs.declared.names.Past.{Past}
 use Rattle.vlog_check.specs.declared.expr.Reading.{Reading}
 use Rattle.vlog_check.specs.Found.{IsLeastFinding, FindsAmong, earlier}
-use Rattle.vlog_check.specs.Scope.{value_of, number_among, declared, directed, wired, placed, range_of, leaf_width, is_declared, is_fixed, leaf_place}
+use Rattle.vlog_check.specs.Scope.{value_of, number_among, declared, directed, wired, placed, range_of, leaf_width, width_of, is_declared, is_fixed, leaf_place}
 use Rattle.vlog_check.specs.FindingWidths.{FindsLeaf}
 
 -- the table has the number of each of the names
@@ -37,14 +38,23 @@ head_place (leaf ∷ more) = Some (leaf_place leaf)
 
 -- what is kept of these leaves of a module: the first place, the width as far as it is below 2 to the 64, whether all are declared, whether one is a constant, and
 -- the first that isn't declared
-pub record IsReading (m : Module) (leaves : List Leaf) (r : Reading) : Type 0 where
-  pub first : r.place ≡ head_place leaves
-  pub bits : r.width ≡ min (sum_by (leaf_width m) leaves) (2 ^ 64 - 1)
-  pub bound : sum_by (leaf_width m) leaves ≤ 2 ^ 32 * length leaves
-  pub all : r.sound ≡ list_all (is_declared m) leaves
-  pub any : r.fixed ≡ list_any is_fixed leaves
-  pub least : IsLeastFinding (FindsAmong (λ k leaf f. FindsLeaf m leaf f) leaves) r.found
+pub record IsReading (m : Module) (run : List Leaf) (r : Reading) : Type 0 where
+  pub first : r.place ≡ head_place run
+  pub bits : r.width ≡ min (sum_by (leaf_width m) run) (2 ^ 64 - 1)
+  pub bound : sum_by (leaf_width m) run ≤ 2 ^ 32 * length run
+  pub all : r.sound ≡ list_all (is_declared m) run
+  pub any : r.fixed ≡ list_any is_fixed run
+  pub least : IsLeastFinding (FindsAmong (λ k leaf f. FindsLeaf m leaf f) run) r.found
 
 -- what is kept of two runs of leaves, one behind the other
 abbrev pub joined : Reading → Reading → Reading
 joined a b = record { place = option_or a.place b.place; width = min (a.width + b.width) (2 ^ 64 - 1); sound = a.sound && b.sound; fixed = a.fixed || b.fixed; found = earlier a.found b.found }
+
+-- what is kept of an expression of a module
+pub record IsRead (m : Module) (e : Expr) (r : Reading) : Type 0 where
+  pub reading : IsReading m (leaves e) r
+  pub width : r.width ≡ width_of m e
+
+-- each of the expressions has no more leaves than a text has bytes
+abbrev pub AreFew : List Expr → Type 0
+AreFew es = (k : ℕ) (e : Expr) → slice_get es k ≡ Some e → length (leaves e) ≤ 67108864

@@ -1,7 +1,7 @@
 ghost use Rattle.std.specs.Prelude.{◌≡◌, ℕ, ◌+◌, ◌*◌, ◌^◌, ◌≤◌, ◌<◌, [], ◌∷◌, ◌++◌, length, List, Some, None, true, false, IfOk};
 ghost use Rattle.vlog_parse.specs.Leaves.{Leaf, Net, Bit, Part, Fixed, leaves};
-ghost use Rattle.vlog_check.specs.Scope.{distance, range_width, has_index, has_part, is_declared, width_of};
-ghost use Rattle.vlog_check.specs.Names.{IsNames, IsReading, joined};
+ghost use Rattle.vlog_check.specs.Scope.{distance, range_width, has_index, has_part, is_declared};
+ghost use Rattle.vlog_check.specs.Names.{IsNames, IsReading, IsRead, joined};
 
 use crate::found::{Detail, Found, earlier};
 use crate::names::Names;
@@ -217,8 +217,7 @@ fn gather(alloc: Global, names: &Names, e: &Expr) -> Result<Reading, NoMemory>
 pub fn read(alloc: Global, names: &Names, e: &Expr) -> Result<Reading, NoMemory>
     requires names { IsNames names.now }
     requires few { length (leaves e.now) ≤ 67108864 }
-    ensures read { IfOk result (IsReading names.now.module.now (leaves e.now)) }
-    ensures width { IfOk result (λ r. r.width ≡ width_of names.now.module.now e.now) }
+    ensures { IfOk result (IsRead names.now.module.now e.now) }
 {
     let reading = gather(alloc, names, e)?;
     Ok(reading)

@@ -8,3 +8,4 @@ mod names;
 mod primitive;
 mod spell;
 mod table;
+mod width;
