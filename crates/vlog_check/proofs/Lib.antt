@@ -3,3 +3,4 @@ pub mod LeastLaws
 pub mod ReadingLaws
 pub mod NameLaws
 pub mod WidthLaws
+pub mod ParamLaws

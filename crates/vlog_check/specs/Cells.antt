@@ -121,13 +121,17 @@ is_init limit name value = option_map_or (λ n. bytes_eq name (codes "INIT") && 
 abbrev pub is_amount : List ℕ → ℕ → List ℕ → Value → Bool
 is_amount own limit name value = bytes_eq name own && option_map_or (λ n. true) (amount_in limit value) false
 
+-- AW or DW of a memory, within its bounds
+abbrev pub is_size : List ℕ → Value → Bool
+is_size name value = is_amount (codes "AW") address_limit name value || is_amount (codes "DW") data_limit name value
+
 -- whether a cell accepts a parameter with a value: INIT within its bound, of a memory AW and DW within theirs, for a pin x of the
 -- cell `IS_x_INVERTED` with 0 alone, and of the buffers everything
 abbrev pub accepts : Primitive → List ℕ → Value → Bool
 accepts cell name value =
     accepts_all cell
     || is_init (init_limit cell) name value
-    || (is_memory cell && (is_amount (codes "AW") address_limit name value || is_amount (codes "DW") data_limit name value))
+    || (is_memory cell && is_size name value)
     || (is_inverter (pins cell) name && is_below 1 value)
 
 -- the values that parameters of a name have

@@ -5,6 +5,7 @@
 mod expr;
 mod found;
 mod names;
+mod params;
 mod primitive;
 mod spell;
 mod table;
