@@ -39,9 +39,10 @@ inverted_none name pin none = by (bytes_eq name (inverted_name pin)) (bytes_eq-D
     by false equal = refl
 
 pub inverted_some : (name middle pin : List ℕ) (r : Bool) → name ≡ inverted_name middle → r ≡ bytes_eq middle pin → r ≡ bytes_eq name (inverted_name pin)
-inverted_some name middle pin r is eq = eq ∙ same_from_decides (bytes_eq middle pin) (bytes_eq name (inverted_name pin)) (bytes_eq-Decides middle pin)
-    ( (λ e. append_cancel_left head middle pin (append_cancel_right (head ++ middle) (head ++ pin) tail (sym is ∙ (bytes_eq-Decides name (inverted_name pin)).0 e)))
-    , (λ e. (bytes_eq-Decides name (inverted_name pin)).1 (is ∙ ap inverted_name e)) )
+inverted_some name middle pin r is eq = eq ∙ same_from_decides (bytes_eq middle pin) (bytes_eq name (inverted_name pin)) (bytes_eq-Decides middle pin) (
+  (λ e. append_cancel_left head middle pin (append_cancel_right (head ++ middle) (head ++ pin) tail (sym is ∙ (bytes_eq-Decides name (inverted_name pin)).0 e))),
+  (λ e. (bytes_eq-Decides name (inverted_name pin)).1 (is ∙ ap inverted_name e)),
+)
 
 -- Values
 
@@ -66,7 +67,7 @@ values_other own p r is wrong = by (bytes_eq own p.0) (bytes_eq-Decides own p.0)
 pub values_two : (limit : ℕ) (own : List ℕ) (params : List (List ℕ × Value)) (i : ℕ) (v w : Value) → values_of own (take (i + 1) params) ≡ v ∷ w ∷ [] → None ≡ only_amount limit (values_of own params)
 values_two limit own params i v w two =
     sym (ap (only_amount limit) (ap (values_of own) (sym (take-append-drop (i + 1) params)) ∙ filter_map-append (λ (q : List ℕ × Value). cond (bytes_eq own q.0) (Some q.1) None) (take (i + 1) params) (drop (i + 1) params)
-      ∙ ap (λ vs. vs ++ values_of own (drop (i + 1) params)) two))
+    ∙ ap (λ vs. vs ++ values_of own (drop (i + 1) params)) two))
 
 pub values_third : (limit : ℕ) (own : List ℕ) (params : List (List ℕ × Value)) (i : ℕ) (p : List ℕ × Value) (seen : Option Value) (r : Bool) → i < length params → p ≡ get_or params i p → r ≡ bytes_eq p.0 own → r ≡ true
     → values_of own (take i params) ≡ option_to_list seen → is_some seen ≡ true → None ≡ only_amount limit (values_of own params)

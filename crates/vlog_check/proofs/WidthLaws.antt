@@ -35,6 +35,6 @@ module _ (m : Module) (e : Expr) (r : Reading) (is : IsRead m e r) where
       → f ≡ finding (place_of e) Alone (refusals.Width bits r.width) → IsLeastFinding (FindsWidth m want e) (Some f)
   least_width want bits f is_want sound other found =
       subst (λ o. IsLeastFinding (FindsWidth m o e) (Some f)) (sym is_want)
-        (least_found (is_sound m e && not (width_of m e == bits)) (finding (place_of e) Alone (refusals.Width bits (width_of m e))) f
-          (ap (λ b. b && not (width_of m e == bits)) (sym sound_is ∙ sound) ∙ ap (λ w. not (w == bits)) (sym is.width) ∙ ap not (differs_is r.width bits other))
-          (found ∙ ap (λ w. finding (place_of e) Alone (refusals.Width bits w)) is.width))
+      (least_found (is_sound m e && not (width_of m e == bits)) (finding (place_of e) Alone (refusals.Width bits (width_of m e))) f
+      (ap (λ b. b && not (width_of m e == bits)) (sym sound_is ∙ sound) ∙ ap (λ w. not (w == bits)) (sym is.width) ∙ ap not (differs_is r.width bits other))
+      (found ∙ ap (λ w. finding (place_of e) Alone (refusals.Width bits w)) is.width))

@@ -12,9 +12,10 @@ use Rattle.vlog_parse.specs.declared.tree.Conns.TheVariants.{ByName, ByPlace}
 use Rattle.vlog_parse.specs.declared.tree.Expr.{Expr}
 use Rattle.vlog_check.specs.declared.found.Detail.TheVariants.{Alone, Parameter, Connection, NoParameter, NoPin}
 use Rattle.vlog_check.specs.declared.found.Found.{Found}
+use Rattle.vlog_check.specs.declared.kind.Pin.{Pin}
 use Rattle.vlog_check.specs.Found.{FindsAmong, FindsIf}
 use Rattle.vlog_check.specs.Cells.{accepts, is_memory}
-use Rattle.vlog_check.specs.Scope.{value_of, number_among, has_constant, Kind, OfCell, OfModule, kind_of, pin_names, Pin, pin_of, is_input, is_output, is_given}
+use Rattle.vlog_check.specs.Scope.{value_of, number_among, has_constant, Kind, OfCell, OfModule, kind_of, pin_names, pin_of, is_input, is_output, is_given}
 use Rattle.vlog_check.specs.FindingWidths.{finding, FindsUndeclared, FindsWidth}
 
 -- an instance names no module of the text and no cell
@@ -51,8 +52,11 @@ abbrev pub goes_out : Option Pin → Bool
 goes_out pin = option_map_or (λ (p : Pin). is_output p.way) pin false
 
 -- whether a connection can't stand: there is no such pin, it is given twice, or an output is connected to a constant
+abbrev pub is_bad_pin : Option Pin → Bool → Bool → Bool
+is_bad_pin pin twice constant = is_none pin || twice || (goes_out pin && constant)
+
 abbrev pub is_bad_connection : Option Pin → Bool → Option Expr → Bool
-is_bad_connection pin twice e = is_none pin || twice || (goes_out pin && option_map_or has_constant e false)
+is_bad_connection pin twice e = is_bad_pin pin twice (option_map_or has_constant e false)
 
 -- what is found on the expression of a connection, which has the width of its pin
 abbrev pub FindsConnected : Module → Option Pin → Option Expr → Found → Type 0
@@ -90,10 +94,14 @@ FindsInConns m i kind (ByPlace given) f = FindsAmong (λ k e g. FindsPlaced m i 
 
 -- Pins that aren't given
 
--- whether the pin of a name and a number is an input that isn't given. A name that stands twice counts at its first place.
+-- of a name that stands twice in a header the first place counts
+abbrev pub is_first_place : Kind → ℕ → List ℕ → Bool
+is_first_place (OfCell cell) k name = true
+is_first_place (OfModule n) k name = option_map_or (λ first. first == k) (number_among n.ports name) false
+
+-- whether the pin of a name and a number is an input that isn't given
 abbrev pub is_missing : Inst → Kind → ℕ → List ℕ → Bool
-is_missing i kind k name =
-    goes_in (pin_of i kind name) && option_map_or (λ first. first == k) (number_among (pin_names kind) name) false && not (is_given i.conns k name)
+is_missing i kind k name = goes_in (pin_of i kind name) && is_first_place kind k name && not (is_given i.conns k name)
 
 abbrev pub FindsMissing : Inst → Kind → ℕ → List ℕ → Found → Type 0
 FindsMissing i kind k name f = FindsIf (is_missing i kind k name) (finding i.place (NoPin k) (refusals.OpenInput name)) f

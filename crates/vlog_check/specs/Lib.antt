@@ -6,3 +6,4 @@ pub mod FindingWidths
 pub mod FindingPins
 pub mod Checked
 pub mod Names
+pub mod Kinds

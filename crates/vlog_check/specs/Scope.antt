@@ -17,6 +17,7 @@ use Rattle.vlog_parse.specs.declared.tree.Conns.{Conns}
 use Rattle.vlog_parse.specs.declared.tree.Conns.TheVariants.{ByName, ByPlace}
 use Rattle.vlog_parse.specs.declared.tree.Expr.{Expr}
 use Rattle.vlog_parse.specs.Leaves.{Leaf, Net, Bit, Part, Fixed, leaves}
+use Rattle.vlog_check.specs.declared.kind.Pin.{Pin}
 use Rattle.vlog_check.specs.declared.names.Port.{Port}
 use Rattle.vlog_check.specs.declared.primitive.Primitive.{Primitive}
 use Rattle.vlog_check.specs.Cells.{PinRow, cells, pins, bits_of}
@@ -204,11 +205,6 @@ kind_of tree i = cell_first (cell_of i.module) (module_of tree i.module)
 abbrev pub pin_names : Kind → List (List ℕ)
 pin_names (OfCell cell) = map (λ (row : PinRow). row.name) (pins cell)
 pin_names (OfModule m) = m.ports
-
--- a pin: its direction and its width, where it has them
-pub record Pin : Type 0 where
-  pub way : Option Dir
-  pub width : Option ℕ
 
 -- the pin of a name of an instance's cell or module
 abbrev pub pin_of : Inst → Kind → List ℕ → Option Pin

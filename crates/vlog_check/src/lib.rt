@@ -2,8 +2,10 @@
 //! clauses 4, 5, 6, 7 and 12; UG953 for the primitives' pins and parameters).
 #![tactic(auto)]
 
+mod connect;
 mod expr;
 mod found;
+mod kind;
 mod names;
 mod params;
 mod primitive;

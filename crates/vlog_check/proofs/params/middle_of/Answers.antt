@@ -14,5 +14,5 @@ returns-in-Some c =
     let name = c.args.name.now in
     let rest = c.in-Some.rest.now in
     middle_some name rest c.strip_suffix.result
-      (subst (λ r. MatchOption r ((rest : List ℕ) → name ≢ head ++ rest) (λ x. name ≡ head ++ x.now)) c.in-Some.is (strip_prefix_is Decides-eqb name head c.strip_prefix.result c.strip_prefix.ensures.cases))
-      (strip_suffix_is Decides-eqb rest tail c.strip_suffix.result c.strip_suffix.ensures.cases)
+    (subst (λ r. MatchOption r ((rest : List ℕ) → name ≢ head ++ rest) (λ x. name ≡ head ++ x.now)) c.in-Some.is (strip_prefix_is Decides-eqb name head c.strip_prefix.result c.strip_prefix.ensures.cases))
+    (strip_suffix_is Decides-eqb rest tail c.strip_suffix.result c.strip_suffix.ensures.cases)

@@ -11,8 +11,8 @@ returns c =
     let target = c.args.target.now in
     let value = c.args.value.now in
     least_four (FindsUndeclared m target) (FindsUndeclared m value) (FindsFixedTarget target) (FindsWidth m (target_width m target) value)
-      c.in_ok-to.to.found c.in_ok-from.from.found c.in_ok-fixed.fixed c.find_width-width.result c.earlier-2.result c.earlier.result c.earlier-last.result
-      (undeclared_is m target c.in_ok-to.to c.in_ok-to.ensures) (undeclared_is m value c.in_ok-from.from c.in_ok-from.ensures)
-      (c.in_ok-fixed.ensures m target c.in_ok-to.ensures)
-      (subst (λ w. IsLeastFinding (FindsWidth m w value) c.find_width-width.result) (c.target_width.ensures m target c.in_ok-to.ensures) (c.find_width-width.ensures m value c.in_ok-from.ensures))
-      c.earlier-last.ensures c.earlier.ensures c.earlier-2.ensures
+    c.in_ok-to.to.found c.in_ok-from.from.found c.in_ok-fixed.fixed c.find_width-width.result c.earlier-2.result c.earlier.result c.earlier-last.result
+    (undeclared_is m target c.in_ok-to.to c.in_ok-to.ensures) (undeclared_is m value c.in_ok-from.from c.in_ok-from.ensures)
+    (c.in_ok-fixed.ensures m target c.in_ok-to.ensures)
+    (subst (λ w. IsLeastFinding (FindsWidth m w value) c.find_width-width.result) (c.target_width.ensures m target c.in_ok-to.ensures) (c.find_width-width.ensures m value c.in_ok-from.ensures))
+    c.earlier-last.ensures c.earlier.ensures c.earlier-2.ensures

@@ -24,4 +24,4 @@ returns c =
     let m = c.args.names.now.module.now in
     let g = c.args.g.now in
     least_joined (FindsAmong (FindsInTerminal m g) g.args) (FindsFewTerminals g) c.loop-k.best c.in_ok-few.few c.earlier.result
-      (least_end (FindsInTerminal m g) c.as_slice-e-items.result.now g.args c.loop-k.k c.loop-k.best c.as_slice-e-items.ensures c.loop-k-test.false c.loop-k.invariant) c.in_ok-few.ensures c.earlier.ensures
+    (least_end (FindsInTerminal m g) c.as_slice-e-items.result.now g.args c.loop-k.k c.loop-k.best c.as_slice-e-items.ensures c.loop-k-test.false c.loop-k.invariant) c.in_ok-few.ensures c.earlier.ensures

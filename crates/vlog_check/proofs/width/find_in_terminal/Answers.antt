@@ -10,6 +10,6 @@ returns c =
     let e = c.args.e.now in
     let r = c.in_ok-reading.reading in
     least_three (FindsUndeclared m e) (FindsWidth m (Some 1) e) (FindsFixedTerminal c.args.g.now c.args.k e)
-      r.found c.find_width-width.result c.in_ok-fixed.fixed c.earlier-2.result c.earlier.result
-      (undeclared_is m e r c.in_ok-reading.ensures) (c.find_width-width.ensures m e c.in_ok-reading.ensures) (c.in_ok-fixed.ensures m e c.in_ok-reading.ensures)
-      c.earlier.ensures c.earlier-2.ensures
+    r.found c.find_width-width.result c.in_ok-fixed.fixed c.earlier-2.result c.earlier.result
+    (undeclared_is m e r c.in_ok-reading.ensures) (c.find_width-width.ensures m e c.in_ok-reading.ensures) (c.in_ok-fixed.ensures m e c.in_ok-reading.ensures)
+    c.earlier.ensures c.earlier-2.ensures

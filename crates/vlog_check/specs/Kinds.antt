@@ -1,0 +1,18 @@
+-- What an instance is of, as it is kept while it is checked.
+use Rattle.std.specs.Prelude.{◌≡◌}
+use Rattle.vlog_parse.specs.declared.tree.Inst.{Inst}
+use Rattle.vlog_check.specs.declared.kind.Kind.{Kind}
+use Rattle.vlog_check.specs.declared.kind.Kind.TheVariants.{Cell, Module}
+use Rattle.vlog_check.specs.declared.primitive.Size.TheVariants.{Address, Data}
+use Rattle.vlog_check.specs.Cells.{bits_of}
+use Rattle.vlog_check.specs.Names.{IsNames}
+use Rattle.vlog_check.specs.Scope as scope
+
+abbrev pub kind_seen : Kind → scope.Kind
+kind_seen (Cell sized) = scope.OfCell sized.cell
+kind_seen (Module names) = scope.OfModule names.now.module.now
+
+-- the widths are those that the instance's parameters make, and the tables those of the module
+abbrev pub IsKind : Inst → Kind → Type 0
+IsKind i (Cell sized) = (sized.address ≡ bits_of i.params Address) × (sized.data ≡ bits_of i.params Data)
+IsKind i (Module names) = IsNames names.now
