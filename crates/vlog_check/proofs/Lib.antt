@@ -4,3 +4,5 @@ pub mod ReadingLaws
 pub mod NameLaws
 pub mod WidthLaws
 pub mod ParamLaws
+pub mod SeenLaws
+pub mod InputLaws

@@ -25,13 +25,13 @@ FindsUnknown i (Some kind) f = ⊥
 
 -- Parameters
 
--- whether a parameter behind these can't stand: it stands on a module, it is given twice, or the cell doesn't accept it
-abbrev pub is_bad_parameter : Kind → List (List ℕ × Value) → List ℕ × Value → Bool
-is_bad_parameter (OfModule n) past p = true
-is_bad_parameter (OfCell cell) past p = is_some (value_of past p.0) || not (accepts cell p.0 p.1)
+-- whether a parameter can't stand: it is on a module, it is given twice, or the cell doesn't accept it
+abbrev pub is_bad_parameter : Kind → Bool → List ℕ × Value → Bool
+is_bad_parameter (OfModule n) twice p = true
+is_bad_parameter (OfCell cell) twice p = twice || not (accepts cell p.0 p.1)
 
 abbrev pub FindsParameter : Inst → Kind → ℕ → List ℕ × Value → Found → Type 0
-FindsParameter i kind k p f = FindsIf (is_bad_parameter kind (take k i.params) p) (finding i.place (Parameter k) (refusals.Pin p.0)) f
+FindsParameter i kind k p f = FindsIf (is_bad_parameter kind (is_some (value_of (take k i.params) p.0)) p) (finding i.place (Parameter k) (refusals.Pin p.0)) f
 
 -- whether an instance of this lacks a parameter that it must have
 abbrev pub is_lacking : Kind → List (List ℕ × Value) → List ℕ → Bool

@@ -1,7 +1,7 @@
 -- What is kept of a module's names, and of an expression that was read.
-use Rattle.std.specs.Prelude.{◌≡◌, ℕ, min, ◌+◌, ◌-◌, ◌*◌, ◌&&◌, ◌||◌, ◌^◌, ◌≤◌, List, [], ◌∷◌, length, sum_by, slice_get, Option, Some, None}
+use Rattle.std.specs.Prelude.{Bool, ◌≡◌, ℕ, min, ◌+◌, ◌-◌, ◌*◌, ◌&&◌, ◌||◌, ◌^◌, ◌≤◌, List, [], ◌∷◌, length, sum_by, slice_get, Option, Some, None, true, false, ◌==◌, ◌<◌}
 use Rattle.std.specs.List.{list_all, list_any}
-use Rattle.std.specs.Option.{option_or}
+use Rattle.std.specs.Option.{option_or, option_map_or}
 use Rattle.ila_base.specs.declared.place.Place.{Place}
 use Rattle.vlog_parse.specs.declared.tree.Module.{Module}
 use Rattle.vlog_parse.specs.declared.tree.Expr.{Expr}
@@ -11,7 +11,7 @@ use Rattle.vlog_check.specs.declared.names.Names.{Names}
 use Rattle.vlog_check.specs.declared.names.Past.{Past}
 use Rattle.vlog_check.specs.declared.expr.Reading.{Reading}
 use Rattle.vlog_check.specs.Found.{IsLeastFinding, FindsAmong, earlier}
-use Rattle.vlog_check.specs.Scope.{value_of, number_among, declared, directed, wired, placed, range_of, leaf_width, width_of, is_declared, is_fixed, leaf_place}
+use Rattle.vlog_check.specs.Scope.{is_input, direction_of, value_of, number_among, declared, directed, wired, placed, range_of, leaf_width, width_of, is_declared, is_fixed, leaf_place}
 use Rattle.vlog_check.specs.FindingWidths.{FindsLeaf}
 
 -- the table has the number of each of the names
@@ -25,11 +25,22 @@ pub record IsPast (past : Past) (given : List Item) : Type 0 where
   pub wires : (name : List ℕ) → value_of past.wired name ≡ value_of (wired given) name
   pub places : (name : List ℕ) → value_of past.placed name ≡ value_of (placed given) name
 
+-- whether the name is that of an input, and this is its first place in the header
+abbrev pub is_input_at : Module → ℕ → List ℕ → Bool
+is_input_at m k name = is_input (direction_of m name) && option_map_or (λ first. first == k) (number_among m.ports name) false
+
+-- the places are those of the header's inputs, and rise
+pub record AreInputs (m : Module) (places : List ℕ) : Type 0 where
+  pub sound : (j k : ℕ) → slice_get places j ≡ Some k → (name : List ℕ) × (slice_get m.ports k ≡ Some name) × (is_input_at m k name ≡ true)
+  pub complete : (k : ℕ) (name : List ℕ) → slice_get m.ports k ≡ Some name → is_input_at m k name ≡ true → (j : ℕ) × (slice_get places j ≡ Some k)
+  pub rising : (i j k l : ℕ) → i < j → slice_get places i ≡ Some k → slice_get places j ≡ Some l → k < l
+
 -- the tables answer as the module's text does
 pub record IsNames (names : Names) : Type 0 where
   pub ports : (name : List ℕ) → value_of names.ports name ≡ number_among names.module.now.ports name
   pub ranges : (name : List ℕ) → value_of names.ranges name ≡ range_of names.module.now name
   pub directed_ports : (name : List ℕ) → value_of names.directed name ≡ value_of (directed names.module.now.items) name
+  pub input_places : AreInputs names.module.now names.inputs.items
 
 -- the place of the first leaf, if there is one
 abbrev pub head_place : List Leaf → Option Place

@@ -61,8 +61,8 @@ pub fn find_open(
     Ok(None)
 }
 
-// What is found on an expression that a pin is connected to.
-fn find_connected(pin: Option<Pin>, reading: Reading) -> Option<Found>
+/// What is found on an expression that a pin is connected to.
+pub fn find_connected(pin: Option<Pin>, reading: Reading) -> Option<Found>
     ensures { (m : ModuleOf) (e : ExprOf) → IsRead m e reading → IsLeastFinding (FindsConnected m pin (Some e)) result }
 {
     match pin {

@@ -5,6 +5,7 @@
 mod connect;
 mod expr;
 mod found;
+mod inst;
 mod kind;
 mod names;
 mod params;

@@ -1,4 +1,4 @@
-ghost use Rattle.std.specs.Prelude.{◌≡◌, ◌⊎◌, ℕ, ◌+◌, ◌<◌, ◌^◌, [], ◌∷◌, ◌++◌, take, List, IfOk, OnOk};
+ghost use Rattle.std.specs.Prelude.{◌≡◌, ◌⊎◌, ℕ, ◌+◌, ◌<◌, ◌^◌, [], ◌∷◌, ◌++◌, ◌==◌, false, take, List, IfOk, OnOk};
 ghost use Rattle.vlog_parse.specs.declared.tree.Module.{Module as ModuleOf};
 ghost use Rattle.vlog_parse.specs.declared.tree.Item.{Item as ItemOf};
 ghost use Rattle.vlog_parse.specs.declared.tree.Item.TheVariants.{Net};
@@ -6,7 +6,9 @@ ghost use Rattle.ila_base.specs.declared.refusal.NetRefusal.TheVariants.{Duplica
 ghost use Rattle.vlog_check.specs.declared.found.Detail.TheVariants.{Alone};
 ghost use Rattle.vlog_check.specs.Found.{IsLeastFinding, FindsAmong};
 ghost use Rattle.vlog_check.specs.FindingNames.{same_range, is_in_way, port_range, is_declared_again, is_placed_again, FindsSecondPort, FindsSecond};
-ghost use Rattle.vlog_check.specs.Names.{IsNames, IsNumbering, IsPast};
+ghost use Rattle.vlog_check.specs.Names.{IsNames, IsNumbering, IsPast, AreInputs, is_input_at};
+ghost use Rattle.vlog_check.specs.Scope.{value_of, directed as directed_of, is_input};
+ghost use Rattle.std.specs.Option.{option_map, option_map_or};
 
 use crate::found::{Detail, Found, earlier};
 use crate::table::Table;
@@ -31,6 +33,8 @@ pub struct Names<'a> {
     pub ranges: Table<'a, Option<Range>>,
     /// The first declaration of each port by a direction.
     pub directed: Table<'a, Port>,
+    /// The first places of the inputs in the header, in order.
+    pub inputs: Vec<usize>,
 }
 
 /// What some items of a module say of its names.
@@ -263,6 +267,51 @@ fn read_items<'a>(
     Ok((past, best))
 }
 
+fn is_input(port: Option<Port>) -> bool
+    ensures { result ≡ is_input (option_map (λ p. p.dir) port) }
+{
+    match port {
+        None => false,
+        Some(port) => port.dir == Dir::Input,
+    }
+}
+
+fn is_place(first: Option<usize>, k: usize) -> bool
+    ensures { result ≡ option_map_or (λ n. n == k) first false }
+{
+    match first {
+        None => false,
+        Some(n) => n == k,
+    }
+}
+
+// Whether a name of the header is that of an input, and this is its first place.
+fn is_input_at(ports: &Table<usize>, directed: &Table<Port>, k: usize, name: &[u8]) -> bool
+    ensures { (m : ModuleOf) → IsNumbering ports.now m.ports → ((other : List ℕ) → value_of directed.now other ≡ value_of (directed_of m.items) other) → result ≡ is_input_at m k name.now }
+{
+    is_input(directed.get(name)) && is_place(ports.get(name), k)
+}
+
+// The first places of the inputs in the header.
+fn read_inputs(
+    alloc: Global,
+    m: &Module,
+    ports: &Table<usize>,
+    directed: &Table<Port>,
+) -> Result<Vec<usize>, NoMemory>
+    requires ports { IsNumbering ports.now m.now.ports }
+    requires directed { (name : List ℕ) → value_of directed.now name ≡ value_of (directed_of m.now.items) name }
+    ensures { IfOk result (λ places. AreInputs m.now places.items) }
+{
+    let mut places = Vec::new(alloc);
+    for (k, name) in m.ports.as_slice().iter().enumerate() {
+        if is_input_at(ports, directed, k, name.bytes()) {
+            places.push(k)?;
+        }
+    }
+    Ok(places)
+}
+
 /// What the names of a module stand for, and the first that is given twice.
 pub fn read_names<'a>(alloc: Global, m: &'a Module) -> Result<(Names<'a>, Option<Found>), NoMemory>
     ensures names { IfOk result (λ r. IsNames r.0) }
@@ -277,11 +326,13 @@ pub fn read_names<'a>(alloc: Global, m: &'a Module) -> Result<(Names<'a>, Option
         wired: _,
         placed: _,
     } = past;
+    let inputs = read_inputs(alloc, m, &ports, &directed)?;
     let names = Names {
         module: m,
         ports,
         ranges,
         directed,
+        inputs,
     };
     Ok((names, earlier(first, second)))
 }
