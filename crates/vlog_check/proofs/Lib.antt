@@ -6,3 +6,4 @@ pub mod WidthLaws
 pub mod ParamLaws
 pub mod SeenLaws
 pub mod InputLaws
+pub mod MissingLaws

@@ -7,3 +7,4 @@ pub mod FindingPins
 pub mod Checked
 pub mod Names
 pub mod Kinds
+pub mod Given

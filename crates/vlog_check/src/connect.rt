@@ -61,6 +61,28 @@ pub fn find_open(
     Ok(None)
 }
 
+//// The same where the name is in bytes.
+pub fn find_open_named(
+    alloc: Global,
+    holds: bool,
+    place: Place,
+    detail: Detail,
+    name: &[u8],
+) -> Result<Option<Found>, NoMemory>
+    ensures { IfOk result (IsLeastFinding (FindsIf holds (finding place detail (refusals.OpenInput name.now)))) }
+{
+    if holds {
+        let name = Name::new(alloc, name)?;
+        return Ok(Some(Found {
+            place,
+            subject: 0,
+            detail,
+            refusal: NetRefusal::OpenInput(name),
+        }));
+    }
+    Ok(None)
+}
+
 /// What is found on an expression that a pin is connected to.
 pub fn find_connected(pin: Option<Pin>, reading: Reading) -> Option<Found>
     ensures { (m : ModuleOf) (e : ExprOf) → IsRead m e reading → IsLeastFinding (FindsConnected m pin (Some e)) result }
@@ -74,8 +96,8 @@ pub fn find_connected(pin: Option<Pin>, reading: Reading) -> Option<Found>
     }
 }
 
-// Whether there is a constant in what a pin is connected to, and what is found on it.
-fn read_connected(
+/// Whether there is a constant in what a pin is connected to, and what is found on it.
+pub fn read_connected(
     alloc: Global,
     names: &Names,
     pin: Option<Pin>,
