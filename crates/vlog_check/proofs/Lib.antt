@@ -7,3 +7,4 @@ pub mod ParamLaws
 pub mod SeenLaws
 pub mod InputLaws
 pub mod MissingLaws
+pub mod FewLaws

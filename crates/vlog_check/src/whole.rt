@@ -34,8 +34,8 @@ fn find_in_named_exprs(
 {
     let mut best = None;
     for conn in given {
-        let (_fixed, found) = read_connected(alloc, names, None, conn.1.as_ref())?;
-        best = earlier(best, found);
+        let reading = read_connected(alloc, names, None, conn.1.as_ref())?;
+        best = earlier(best, reading.1);
     }
     Ok(best)
 }
@@ -58,22 +58,37 @@ fn find_in_placed_exprs(
     Ok(best)
 }
 
-// What is found on an instance of nothing.
-fn find_in_unknown(alloc: Global, names: &Names, i: &Inst) -> Result<Option<Found>, NoMemory>
+// What is found on the expressions of an instance, whatever its pins are.
+fn find_in_exprs(alloc: Global, names: &Names, i: &Inst) -> Result<Option<Found>, NoMemory>
+    requires names { IsNames names.now }
+    requires few { AreFew (connected_exprs i.now.conns) }
+    ensures { IfOk result (IsLeastFinding (finds.FindsInExprs names.now.module.now i.now.conns)) }
+{
+    match &i.conns {
+        Conns::ByName(given) => {
+            let found = find_in_named_exprs(alloc, names, given.as_slice())?;
+            Ok(found)
+        }
+        Conns::ByPlace(given) => {
+            let found = find_in_placed_exprs(alloc, names, given.as_slice())?;
+            Ok(found)
+        }
+    }
+}
+
+/// What is found on an instance of nothing.
+pub fn find_in_unknown(alloc: Global, names: &Names, i: &Inst) -> Result<Option<Found>, NoMemory>
     requires names { IsNames names.now }
     requires few { AreFew (connected_exprs i.now.conns) }
     ensures { IfOk result (IsLeastFinding (λ f. finds.FindsUnknown i.now None f ⊎ finds.FindsInKind names.now.module.now i.now None f)) }
 {
     let name = i.module.copied(alloc)?;
+    let exprs = find_in_exprs(alloc, names, i)?;
     let unknown = Found {
         place: i.place,
         subject: 0,
         detail: Detail::Alone,
         refusal: NetRefusal::UnknownModule(name),
-    };
-    let exprs = match &i.conns {
-        Conns::ByName(given) => find_in_named_exprs(alloc, names, given.as_slice())?,
-        Conns::ByPlace(given) => find_in_placed_exprs(alloc, names, given.as_slice())?,
     };
     Ok(earlier(Some(unknown), exprs))
 }
