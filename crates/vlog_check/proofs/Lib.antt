@@ -8,3 +8,4 @@ pub mod SeenLaws
 pub mod InputLaws
 pub mod MissingLaws
 pub mod FewLaws
+pub mod DesignLaws

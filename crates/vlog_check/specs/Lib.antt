@@ -8,3 +8,4 @@ pub mod Checked
 pub mod Names
 pub mod Kinds
 pub mod Given
+pub mod Design

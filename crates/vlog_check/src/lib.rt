@@ -3,11 +3,13 @@
 #![tactic(auto)]
 
 mod connect;
+mod design;
 mod expr;
 mod found;
 mod inst;
 mod kind;
 mod missing;
+mod modules;
 mod names;
 mod params;
 mod primitive;

@@ -160,7 +160,8 @@ impl<'a> Past<'a> {
     }
 }
 
-fn duplicate(alloc: Global, place: Place, subject: u64, name: &Name) -> Result<Found, NoMemory>
+/// The finding on a name that is given twice.
+pub fn duplicate(alloc: Global, place: Place, subject: u64, name: &Name) -> Result<Found, NoMemory>
     ensures { IfOk result (λ f. f ≡ record { place = place; subject = subject; detail = Alone; refusal = Duplicate name.now }) }
 {
     let name = name.copied(alloc)?;
