@@ -1,7 +1,7 @@
 -- The modules of a tree, one after the other.
-use Rattle.std.proofs.Common.{◌≡◌, ℕ, zero, suc, ◌+◌, ◌<◌, ◌≤◌, List, [], ◌∷◌, ◌++◌, length, map, take, get_or, slice_get, Option, Some, None, option_and_then, refl, ap, sym, subst, ◌∙◌, arith, length-append, Vec, Global, ◌⊎◌, ⊎_elim, inl, inr}
+use Rattle.std.proofs.Common.{◌≡◌, ℕ, zero, suc, ◌+◌, ◌<◌, List, [], ◌∷◌, ◌++◌, length, take, slice_get, Option, Some, None, option_and_then, refl, ap, sym, subst, ◌∙◌, arith, length-append, ◌⊎◌, ⊎_elim, inl, inr}
 use Rattle.std.specs.Option.{option_or, option_map}
-use Rattle.std.proofs.lemmas.List.{take_all, length-map}
+use Rattle.std.proofs.lemmas.List.{length-map}
 use Rattle.std.proofs.lemmas.Option.{same_Some, none-some, slice_get_within, slice_get-map, get_or_from_slice_get, slice_get_cases}
 use Rattle.vlog_parse.specs.declared.tree.Tree.{Tree}
 use Rattle.vlog_parse.specs.declared.tree.Module.{Module}
@@ -19,7 +19,7 @@ use Rattle.vlog_check.specs.Names.{AreFew}
 use Rattle.vlog_check.specs.Design.{AreNames, IsScope, FindsEarly, FindsLate}
 use Rattle.vlog_check.specs.Names.{IsNames, IsNumbering}
 use Rattle.vlog_check.specs.Kinds.{kind_seen}
-use Rattle.vlog_check.specs.Scope.{module_names, module_of, module_number, value_of, cell_of, cell_first, kind_of, OfCell, OfModule}
+use Rattle.vlog_check.specs.Scope.{module_names, module_of, value_of, cell_of, cell_first, kind_of, OfCell, OfModule}
 use Rattle.vlog_check.proofs.NameLaws.{numbering_more, numbering_all}
 
 -- so far as the first n modules

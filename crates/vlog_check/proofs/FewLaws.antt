@@ -1,11 +1,10 @@
 -- Bounds on the expressions of instances.
-use Rattle.std.proofs.Common.{◌≡◌, ℕ, zero, suc, ◌≤◌, List, [], ◌∷◌, length, filter_map, slice_get, Option, Some, None, refl, ap, sym, subst, ◌∙◌}
+use Rattle.std.proofs.Common.{◌≡◌, ℕ, zero, suc, List, [], ◌∷◌, filter_map, slice_get, Option, Some, None, ap, sym, ◌∙◌}
 use Rattle.std.specs.List.{cons_option}
 use Rattle.std.proofs.lemmas.Option.{same_Some, none-some}
 use Rattle.vlog_parse.specs.declared.tree.Conns.{Conns}
 use Rattle.vlog_parse.specs.declared.tree.Conns.TheVariants.{ByName, ByPlace}
 use Rattle.vlog_parse.specs.declared.tree.Expr.{Expr}
-use Rattle.vlog_parse.specs.Leaves.{leaves}
 use Rattle.vlog_parse.specs.ReadTree.{connected_exprs}
 use Rattle.vlog_check.specs.Kinds.{AreFewNamed}
 use Rattle.vlog_check.specs.Names.{AreFew}

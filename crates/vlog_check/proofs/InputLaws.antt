@@ -1,10 +1,8 @@
 -- The places of a header's inputs, one after the other.
-use Rattle.std.proofs.Common.{◌≡◌, ℕ, zero, suc, ◌+◌, ◌<◌, ◌≤◌, Bool, true, false, List, [], ◌∷◌, ◌++◌, length, get_or, slice_get, Option, Some, None, refl, ap, sym, subst, ◌∙◌, true≢false, inl, inr, ◌⊎◌, ⊎_elim, arith}
+use Rattle.std.proofs.Common.{◌≡◌, ℕ, zero, suc, ◌+◌, ◌<◌, ◌≤◌, true, false, List, [], ◌∷◌, ◌++◌, length, slice_get, Some, None, refl, ap, sym, ◌∙◌, true≢false, inl, inr, ◌⊎◌, ⊎_elim, arith}
 use Rattle.std.proofs.lemmas.Option.{same_Some, slice_get_within}
 use Rattle.vlog_parse.specs.declared.tree.Module.{Module}
 use Rattle.vlog_check.specs.Names.{AreInputs, is_input_at}
-use Rattle.vlog_check.proofs.ReadingLaws.{among_left}
-use Rattle.vlog_check.proofs.LeastLaws.{at_index}
 
 -- so far as the first n names of the header
 pub record AreInputsBelow (m : Module) (n : ℕ) (places : List ℕ) : Type 0 where

@@ -1,7 +1,6 @@
 -- Pins that aren't given.
-use Rattle.std.proofs.Common.{◌≡◌, ℕ, ◌+◌, ◌<◌, ◌≤◌, Bool, true, false, if◌then◌else◌, not, ◌&&◌, ◌==◌, List, [], ◌∷◌, length, map, slice_get, Option, Some, None, is_some, refl, ap, sym, subst, ◌∙◌, true≢false, inl, inr, ◌⊎◌, ⊎_elim, arith}
-use Rattle.std.specs.Borrow.{Bor}
-use Rattle.std.specs.Option.{option_map, option_map_or, option_copied}
+use Rattle.std.proofs.Common.{◌≡◌, ℕ, ◌+◌, ◌<◌, ◌≤◌, Bool, true, false, if◌then◌else◌, not, ◌&&◌, ◌==◌, List, length, map, slice_get, Option, Some, None, is_some, refl, ap, sym, subst, ◌∙◌, true≢false, ◌⊎◌, ⊎_elim, arith}
+use Rattle.std.specs.Option.{option_map, option_map_or}
 use Rattle.std.specs.Ordering.{nat_cmp, is_gt, ordering_then}
 use Rattle.std.specs.declared.cmp.Ordering.{Ordering}
 use Rattle.std.specs.declared.cmp.Ordering.TheVariants.{Less, Equal, Greater}
@@ -24,7 +23,7 @@ use Rattle.vlog_check.specs.Found.{IsLeastFinding, FindsAmong, FindsIf, NoLater}
 use Rattle.vlog_check.specs.FindingPins.{FindsMissing, is_missing, goes_in}
 use Rattle.vlog_check.specs.FindingWidths.{finding}
 use Rattle.vlog_check.specs.Names.{AreInputs, is_input_at}
-use Rattle.vlog_check.specs.Scope.{OfModule, number_among, is_given, is_input, direction_of, net_width, pin_of}
+use Rattle.vlog_check.specs.Scope.{OfModule, number_among, is_given, is_input, direction_of, net_width}
 
 and_left : (a b : Bool) → (a && b) ≡ true → a ≡ true
 and_left true b is = refl

@@ -1,8 +1,7 @@
 -- What tables say of names, item by item and name by name.
-use Rattle.std.proofs.Common.{◌≡◌, ℕ, zero, suc, ◌+◌, ◌<◌, ◌≤◌, Bool, true, false, cond, List, [], ◌∷◌, ◌++◌, length, take, get_or, filter_map, Option, Some, None, refl, ap, sym, subst, ◌∙◌, true≢false, arith, add-zero, length-take-le}
+use Rattle.std.proofs.Common.{◌≡◌, ℕ, ◌+◌, ◌<◌, ◌≤◌, true, false, List, [], ◌∷◌, ◌++◌, length, take, get_or, filter_map, Option, Some, None, refl, ap, sym, subst, ◌∙◌, arith, add-zero, length-take-le}
 use Rattle.std.specs.List.{cons_option}
 use Rattle.std.specs.Option.{option_or}
-use Rattle.std.specs.Map.{lookup}
 use Rattle.std.specs.Str.{bytes_eq}
 use Rattle.std.proofs.lemmas.List.{take_more, take_all}
 use Rattle.std.proofs.lemmas.List.Elements.{filter_map-append}
@@ -13,7 +12,7 @@ use Rattle.vlog_parse.specs.declared.tree.Module.{Module}
 use Rattle.vlog_check.specs.declared.found.Found.{Found}
 use Rattle.vlog_check.specs.Found.{IsLeastFinding}
 use Rattle.vlog_check.specs.FindingNames.{FindsSecond, is_declared_again, at_place}
-use Rattle.vlog_check.specs.Scope.{value_of, numbered_from, number_among}
+use Rattle.vlog_check.specs.Scope.{value_of, numbered_from}
 use Rattle.vlog_check.specs.Names.{IsNumbering}
 use Rattle.vlog_check.proofs.TableLaws.{lookup-append}
 use Rattle.vlog_check.proofs.LeastLaws.{least_where, least_unless}

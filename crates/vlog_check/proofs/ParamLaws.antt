@@ -1,16 +1,15 @@
 -- Names of parameters, and the values that they have.
-use Rattle.std.proofs.Common.{◌≡◌, ◌≢◌, ℕ, zero, suc, ◌+◌, ◌<◌, ◌≤◌, Bool, true, false, cond, List, [], ◌∷◌, ◌++◌, length, take, drop, get_or, filter_map, Option, Some, None, MatchOption, Decides, codes, eqb, refl, ap, sym, subst, ◌∙◌, true≢false, append_assoc, append-nil, is_some, arith}
+use Rattle.std.proofs.Common.{◌≡◌, ◌≢◌, ℕ, ◌+◌, ◌<◌, Bool, true, false, cond, List, [], ◌∷◌, ◌++◌, length, take, drop, get_or, Option, Some, None, MatchOption, codes, refl, ap, sym, ◌∙◌, true≢false, append_assoc, append-nil, is_some}
 use Rattle.std.specs.Borrow.{Bor}
 use Rattle.std.specs.List.{cons_option}
 use Rattle.std.specs.Option.{option_to_list}
 use Rattle.std.specs.Str.{bytes_eq}
-use Rattle.std.specs.Cmp.Lexicographic.{pointwise}
-use Rattle.std.proofs.lemmas.Bool.Decides.{same_from_decides, Decides-eqb}
+use Rattle.std.proofs.lemmas.Bool.Decides.{same_from_decides}
 use Rattle.std.proofs.lemmas.List.{append_cancel_left, append_cancel_right, take-append-drop}
 use Rattle.std.proofs.lemmas.List.Elements.{filter_map-append}
-use Rattle.std.proofs.lemmas.Slice.Eq.{bytes_eq-Decides, strip_prefix_is, strip_suffix_is}
+use Rattle.std.proofs.lemmas.Slice.Eq.{bytes_eq-Decides}
 use Rattle.vlog_parse.specs.declared.tree.Value.{Value}
-use Rattle.vlog_check.specs.Cells.{inverted_name, values_of, only_amount, amount_in}
+use Rattle.vlog_check.specs.Cells.{inverted_name, values_of, only_amount}
 use Rattle.vlog_check.proofs.LeastLaws.{take_step}
 
 -- IS_x_INVERTED

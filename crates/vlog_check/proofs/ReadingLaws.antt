@@ -1,5 +1,5 @@
 -- What is read of the leaves of an expression.
-use Rattle.std.proofs.Common.{◌≡◌, ℕ, zero, suc, ◌+◌, ◌*◌, ◌^◌, ◌<◌, ◌≤◌, Bool, true, false, not, ◌&&◌, ◌||◌, List, [], ◌∷◌, ◌++◌, length, map, take, drop, get_or, sum_by, slice_get, Option, Some, None, refl, ap, sym, subst, ◌∙◌, true≢false, inl, inr, ◌⊎◌, ⊎_elim, arith, length-append, zero-add, append-nil}
+use Rattle.std.proofs.Common.{◌≡◌, ℕ, zero, suc, ◌+◌, ◌^◌, ◌<◌, ◌≤◌, Bool, true, false, not, ◌&&◌, ◌||◌, List, [], ◌∷◌, ◌++◌, length, map, take, get_or, slice_get, Option, Some, None, refl, ap, sym, subst, ◌∙◌, inl, inr, ◌⊎◌, ⊎_elim, arith, length-append, zero-add, append-nil}
 use Rattle.std.specs.List.{flat_map, list_all, list_any}
 use Rattle.std.specs.Option.{option_or}
 use Rattle.std.proofs.lemmas.List.{take_more, take_all}
@@ -7,7 +7,6 @@ use Rattle.std.proofs.lemmas.List.Concat.{flat_map-append}
 use Rattle.std.proofs.lemmas.List.Folds.{list_all-append, list_any-append}
 use Rattle.std.proofs.lemmas.List.Sums.{sum_by-append}
 use Rattle.std.proofs.lemmas.Option.{same_Some}
-use Rattle.ila_base.specs.declared.place.Place.{Place}
 use Rattle.ila_base.specs.declared.refusal.NetRefusal.TheVariants as refusals
 use Rattle.vlog_parse.specs.declared.tree.Expr.{Expr, fold-roll-Expr}
 use Rattle.vlog_parse.specs.declared.tree.Expr.TheVariants.{Concat, rolls-Concat}
@@ -17,7 +16,7 @@ use Rattle.vlog_parse.specs.Leaves.{Leaf, leaves, leaves_at}
 use Rattle.vlog_check.specs.declared.expr.Reading.{Reading}
 use Rattle.vlog_check.specs.declared.found.Detail.TheVariants.{Alone}
 use Rattle.vlog_check.specs.declared.found.Found.{Found}
-use Rattle.vlog_check.specs.Found.{IsLeastFinding, FindsAmong, FindsIf, earlier}
+use Rattle.vlog_check.specs.Found.{IsLeastFinding, FindsAmong, earlier}
 use Rattle.vlog_check.specs.FindingWidths.{FindsLeaf, finding}
 use Rattle.vlog_check.specs.Names.{IsReading, head_place, joined}
 use Rattle.vlog_check.specs.Scope.{leaf_width, width_of, is_declared, is_fixed, leaf_place, leaf_text}

@@ -1,20 +1,16 @@
 -- Findings on an expression that was read.
-use Rattle.std.proofs.Common.{◌≡◌, ℕ, ◌==◌, Bool, true, false, not, ◌&&◌, Option, Some, None, refl, subst, ap, sym, ◌∙◌, arith}
-use Rattle.std.specs.List.{list_any}
+use Rattle.std.proofs.Common.{◌≡◌, ℕ, ◌==◌, true, false, not, ◌&&◌, Option, Some, subst, ap, sym, ◌∙◌, arith}
 use Rattle.std.proofs.lemmas.Bool.Decides.{nat_tests}
-use Rattle.ila_base.specs.declared.place.Place.{Place}
-use Rattle.ila_base.specs.declared.refusal.NetRefusal.{NetRefusal}
 use Rattle.ila_base.specs.declared.refusal.NetRefusal.TheVariants as refusals
 use Rattle.vlog_parse.specs.declared.tree.Expr.{Expr}
 use Rattle.vlog_parse.specs.declared.tree.Module.{Module}
-use Rattle.vlog_parse.specs.Leaves.{leaves}
 use Rattle.vlog_check.specs.declared.expr.Reading.{Reading}
 use Rattle.vlog_check.specs.declared.found.Detail.TheVariants.{Alone}
 use Rattle.vlog_check.specs.declared.found.Found.{Found}
-use Rattle.vlog_check.specs.Found.{IsLeastFinding, FindsAmong}
-use Rattle.vlog_check.specs.FindingWidths.{FindsLeaf, FindsUndeclared, FindsWidth, FindsFixedTarget, finding}
+use Rattle.vlog_check.specs.Found.{IsLeastFinding}
+use Rattle.vlog_check.specs.FindingWidths.{FindsUndeclared, FindsWidth, finding}
 use Rattle.vlog_check.specs.Names.{IsRead}
-use Rattle.vlog_check.specs.Scope.{is_sound, has_constant, width_of, place_of, is_fixed}
+use Rattle.vlog_check.specs.Scope.{is_sound, has_constant, width_of, place_of}
 use Rattle.vlog_check.proofs.LeastLaws.{least_found}
 
 pub differs_is : (a b : ℕ) → (a ≡ b → ⊥) → (a == b) ≡ false

@@ -1,4 +1,4 @@
-use Rattle.std.proofs.Common.{◌≡◌, ◌&&◌, Bool, is_none, subst, sym, ap, ◌∙◌}
+use Rattle.std.proofs.Common.{◌&&◌, is_none, subst, ap, ◌∙◌}
 use Rattle.std.specs.Option.{option_copied}
 use Rattle.ila_base.specs.declared.refusal.NetRefusal.TheVariants as refusals
 use Rattle.vlog_check.specs.declared.found.Detail.TheVariants.{Connection}

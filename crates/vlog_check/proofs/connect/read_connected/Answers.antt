@@ -1,4 +1,4 @@
-use Rattle.std.proofs.Common.{subst, sym, ap, Some}
+use Rattle.std.proofs.Common.{subst, sym, ap}
 use Rattle.std.specs.Option.{option_copied}
 use Rattle.vlog_check.specs.Found.{IsLeastFinding}
 use Rattle.vlog_check.specs.FindingPins.{FindsConnected}

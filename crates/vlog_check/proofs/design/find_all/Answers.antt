@@ -1,4 +1,4 @@
-use Rattle.std.proofs.Common.{◌≡◌, ◌⊎◌, subst, sym}
+use Rattle.std.proofs.Common.{◌⊎◌, subst, sym}
 use Rattle.vlog_parse.specs.ReadTree.{IsReadTree}
 use Rattle.vlog_check.specs.Checked.{Finds}
 use Rattle.vlog_check.specs.Design.{FindsEarly, FindsLate}

@@ -1,4 +1,3 @@
-use Rattle.std.proofs.Common.{◌≡◌, length}
 use Rattle.vlog_check.specs.FindingNames.{FindsNoDirection}
 use Rattle.vlog_check.proofs.LeastLaws.{least_start, least_step, least_end}
 use Rattle.vlog_check.proofs.design.find_in_header.Goals as goal

@@ -1,7 +1,7 @@
-use Rattle.std.proofs.Common.{◌≡◌, ◌⊎◌, subst, sym, ap, ◌∙◌, Some, None, inl, inr, ⊎_elim}
+use Rattle.std.proofs.Common.{◌⊎◌, subst, sym, ap, ◌∙◌, Some, inr, ⊎_elim}
 use Rattle.std.specs.Option.{option_map}
 use Rattle.vlog_check.specs.Found.{IsLeastFinding}
-use Rattle.vlog_check.specs.FindingPins.{FindsUnknown, FindsInKind, FindsInInst}
+use Rattle.vlog_check.specs.FindingPins.{FindsUnknown, FindsInKind}
 use Rattle.vlog_check.specs.Kinds.{kind_seen}
 use Rattle.vlog_check.proofs.LeastLaws.{least_as}
 use Rattle.vlog_check.proofs.design.find_in_inst.Goals as goal

@@ -1,4 +1,3 @@
-use Rattle.std.proofs.Common.{◌≡◌, length}
 use Rattle.vlog_check.specs.Checked.{FindsWithin}
 use Rattle.vlog_check.specs.Design.{FindsLateItem}
 use Rattle.vlog_check.specs.FindingNames.{FindsOutside}

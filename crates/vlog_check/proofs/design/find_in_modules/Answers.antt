@@ -1,4 +1,4 @@
-use Rattle.std.proofs.Common.{◌≡◌, ◌+◌, length, sym, ap, ◌∙◌, subst, arith, slice_get}
+use Rattle.std.proofs.Common.{◌+◌, length, sym, ap, subst, arith}
 use Rattle.vlog_check.specs.Design.{FindsLate}
 use Rattle.vlog_check.specs.Found.{IsLeastFinding}
 use Rattle.vlog_check.proofs.LeastLaws.{FindsBelow, least_start, least_more, least_all, at_index}

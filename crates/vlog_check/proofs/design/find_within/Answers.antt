@@ -1,4 +1,4 @@
-use Rattle.std.proofs.Common.{◌≡◌, refl, subst, sym, ap}
+use Rattle.std.proofs.Common.{refl, subst, sym}
 use Rattle.vlog_parse.specs.ReadTree.{item_exprs}
 use Rattle.vlog_check.specs.Checked.{FindsWithin}
 use Rattle.vlog_check.specs.Found.{IsLeastFinding}

@@ -1,4 +1,4 @@
-use Rattle.std.proofs.Common.{◌≡◌, ◌≤◌, ◌<◌, ◌+◌, ◌∙◌, refl, sym, ap, subst, arith, length, take, length-append, get_or, ◌++◌}
+use Rattle.std.proofs.Common.{sym, subst, take, ◌++◌}
 use Rattle.std.specs.List.{flat_map}
 use Rattle.vlog_parse.specs.Leaves.{leaves}
 use Rattle.vlog_check.specs.Names.{IsReading}

@@ -1,4 +1,4 @@
-use Rattle.std.proofs.Common.{◌≡◌, false, is_some, refl, sym, ap, ◌∙◌, arith, rules, Some, None}
+use Rattle.std.proofs.Common.{◌≡◌, is_some, sym, ap, ◌∙◌, arith, rules, Some, None}
 use Rattle.std.specs.Option.{option_map_or}
 use Rattle.ila_base.specs.declared.refusal.NetRefusal.TheVariants as refusals
 use Rattle.vlog_parse.specs.Leaves.{Net}

@@ -1,4 +1,4 @@
-use Rattle.std.proofs.Common.{◌≡◌, is_some, subst, sym, ap, ◌∙◌, take}
+use Rattle.std.proofs.Common.{◌≡◌, is_some, subst, ap, ◌∙◌, take}
 use Rattle.ila_base.specs.declared.refusal.NetRefusal.TheVariants as refusals
 use Rattle.vlog_check.specs.declared.found.Detail.TheVariants.{Parameter}
 use Rattle.vlog_check.specs.Found.{IsLeastFinding, FindsIf}

@@ -1,5 +1,5 @@
-use Rattle.std.proofs.Common.{◌≡◌, refl}
-use Rattle.vlog_check.specs.Found.{IsLeastFinding, FindsAmong}
+use Rattle.std.proofs.Common.{refl}
+use Rattle.vlog_check.specs.Found.{FindsAmong}
 use Rattle.vlog_check.specs.FindingPins.{FindsPlaced, FindsPositions, port_at}
 use Rattle.vlog_check.specs.Kinds.{kind_seen}
 use Rattle.vlog_check.proofs.LeastLaws.{least_start, least_step, least_end, least_joined, at_index}

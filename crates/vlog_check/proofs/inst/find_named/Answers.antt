@@ -1,5 +1,4 @@
-use Rattle.std.proofs.Common.{◌≡◌, is_some, subst, sym, ap, ◌∙◌, take, refl, Option, Some, None, IfSome, get_or}
-use Rattle.std.specs.Option.{option_copied}
+use Rattle.std.proofs.Common.{is_some, subst, ap, ◌∙◌, take, refl}
 use Rattle.vlog_check.specs.Found.{IsLeastFinding}
 use Rattle.vlog_check.specs.FindingPins.{FindsNamed, FindsConnection}
 use Rattle.vlog_check.specs.Kinds.{kind_seen}

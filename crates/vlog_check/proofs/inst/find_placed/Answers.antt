@@ -1,6 +1,6 @@
-use Rattle.std.proofs.Common.{◌≡◌, subst, sym, ap, ◌∙◌, Some, None, false}
+use Rattle.std.proofs.Common.{subst, ap, ◌∙◌, Some, false}
 use Rattle.vlog_check.specs.Found.{IsLeastFinding}
-use Rattle.vlog_check.specs.FindingPins.{FindsPlaced, FindsConnection, port_at}
+use Rattle.vlog_check.specs.FindingPins.{FindsPlaced, FindsConnection}
 use Rattle.vlog_check.specs.Kinds.{kind_seen}
 use Rattle.vlog_check.specs.Scope.{pin_of}
 use Rattle.vlog_check.proofs.inst.find_placed.Goals as goal

@@ -1,11 +1,10 @@
-use Rattle.std.proofs.Common.{◌≡◌, subst, sym, ap, ◌∙◌, true, refl, length, nat_lt}
+use Rattle.std.proofs.Common.{◌≡◌, subst, sym, true, refl, length, nat_lt}
 use Rattle.ila_base.specs.declared.refusal.NetRefusal.TheVariants as refusals
 use Rattle.vlog_check.specs.declared.found.Detail.TheVariants.{Connection}
 use Rattle.vlog_check.specs.Found.{IsLeastFinding, FindsIf}
 use Rattle.vlog_check.specs.FindingPins.{FindsPositions}
 use Rattle.vlog_check.specs.FindingWidths.{finding}
 use Rattle.vlog_check.specs.Kinds.{kind_seen}
-use Rattle.vlog_check.specs.Scope.{OfModule}
 use Rattle.vlog_check.proofs.LeastLaws.{least_as}
 use Rattle.vlog_check.proofs.inst.find_positions.Goals as goal
 

@@ -1,4 +1,4 @@
-use Rattle.std.proofs.Common.{◌≡◌, ◌+◌, [], length, get_or, subst, sym, ap, arith, refl}
+use Rattle.std.proofs.Common.{◌+◌, [], get_or, subst, sym, arith}
 use Rattle.std.proofs.lemmas.Option.{slice_get-get_or}
 use Rattle.vlog_parse.specs.declared.tree.Dir.TheVariants.{Input}
 use Rattle.vlog_check.specs.declared.primitive.CellPin.{CellPin}

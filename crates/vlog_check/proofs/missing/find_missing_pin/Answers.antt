@@ -1,4 +1,4 @@
-use Rattle.std.proofs.Common.{◌≡◌, ◌&&◌, not, Bool, true, false, refl, sym, ap, ◌∙◌, subst}
+use Rattle.std.proofs.Common.{◌≡◌, ◌&&◌, not, true, sym, ap, ◌∙◌, subst}
 use Rattle.ila_base.specs.declared.refusal.NetRefusal.TheVariants as refusals
 use Rattle.vlog_check.specs.declared.found.Detail.TheVariants.{NoPin}
 use Rattle.vlog_check.specs.Found.{IsLeastFinding, FindsIf}

@@ -1,4 +1,4 @@
-use Rattle.std.proofs.Common.{◌≡◌, sym, ap, ◌∙◌, take}
+use Rattle.std.proofs.Common.{sym, ap, ◌∙◌, take}
 use Rattle.vlog_check.specs.FindingNames.{is_taken, at_place}
 use Rattle.vlog_check.proofs.LeastLaws.{least_found, least_unless}
 use Rattle.vlog_check.proofs.modules.find_module.Goals as goal

@@ -1,5 +1,5 @@
-use Rattle.std.proofs.Common.{◌≡◌, ◌+◌, ◌⊎◌, length, refl, sym, ap, ◌∙◌, subst, arith, take}
-use Rattle.vlog_check.specs.Found.{IsLeastFinding, FindsAmong}
+use Rattle.std.proofs.Common.{◌+◌, ◌⊎◌, length, refl, sym, ap, subst, arith}
+use Rattle.vlog_check.specs.Found.{FindsAmong}
 use Rattle.vlog_check.specs.Design.{FindsEarly}
 use Rattle.vlog_check.specs.FindingNames.{FindsModule, FindsSecondPort, FindsSecond}
 use Rattle.vlog_check.proofs.DesignLaws.{IsScopeBelow, scope_start, scope_more, scope_end, numbers_below}

@@ -1,4 +1,3 @@
-use Rattle.std.proofs.Common.{take}
 use Rattle.vlog_check.specs.Found.{IsLeastFinding}
 use Rattle.vlog_check.specs.Design.{FindsEarly}
 use Rattle.vlog_check.proofs.DesignLaws.{IsScopeBelow}

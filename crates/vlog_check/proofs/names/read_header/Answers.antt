@@ -1,6 +1,5 @@
-use Rattle.std.proofs.Common.{◌≡◌, ◌<◌, ◌+◌, ◌^◌, length, get_or, refl, sym, ap, ◌∙◌, subst, arith, take, Some}
+use Rattle.std.proofs.Common.{length, ap, arith}
 use Rattle.vlog_check.specs.FindingNames.{FindsSecondPort}
-use Rattle.vlog_check.specs.Names.{IsNumbering}
 use Rattle.vlog_check.specs.Scope.{value_of}
 use Rattle.vlog_check.proofs.LeastLaws.{least_start, least_step, least_end}
 use Rattle.vlog_check.proofs.NameLaws.{numbering_step, numbering_all}

@@ -1,4 +1,4 @@
-use Rattle.std.proofs.Common.{◌≡◌, ℕ, List, ◌∷◌, [], ◌++◌, ◌+◌, length, sym, ap, ◌∙◌, subst, arith}
+use Rattle.std.proofs.Common.{◌≡◌, ◌+◌, length, sym, ap, ◌∙◌, subst, arith}
 use Rattle.vlog_check.specs.Names.{is_input_at}
 use Rattle.vlog_check.proofs.InputLaws.{AreInputsBelow, inputs_start, inputs_more, inputs_skip, inputs_end}
 use Rattle.vlog_check.proofs.LeastLaws.{at_index}

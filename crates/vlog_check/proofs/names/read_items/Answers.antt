@@ -1,4 +1,4 @@
-use Rattle.std.proofs.Common.{◌≡◌, length, sym, ap, ◌∙◌, subst, arith, take}
+use Rattle.std.proofs.Common.{length, ap, subst, arith, take}
 use Rattle.std.proofs.lemmas.List.{take_all}
 use Rattle.vlog_check.specs.FindingNames.{FindsSecond}
 use Rattle.vlog_check.specs.Names.{IsPast}

@@ -1,4 +1,4 @@
-use Rattle.std.proofs.Common.{◌≡◌, refl, subst, None}
+use Rattle.std.proofs.Common.{refl, subst, None}
 use Rattle.vlog_check.specs.Found.{IsLeastFinding}
 use Rattle.vlog_check.specs.FindingPins.{FindsConnected}
 use Rattle.vlog_check.proofs.LeastLaws.{least_start, least_step, least_end, at_index}

@@ -1,4 +1,4 @@
-use Rattle.std.proofs.Common.{◌≡◌, refl}
+use Rattle.std.proofs.Common.{refl}
 use Rattle.vlog_check.specs.FindingWidths.{FindsUndeclared}
 use Rattle.vlog_check.proofs.LeastLaws.{least_start, least_step, least_end, at_index}
 use Rattle.vlog_check.proofs.whole.find_in_placed_exprs.Goals as goal

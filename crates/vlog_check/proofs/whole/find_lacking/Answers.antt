@@ -1,4 +1,4 @@
-use Rattle.std.proofs.Common.{◌≡◌, ◌∙◌, ap, subst, codes}
+use Rattle.std.proofs.Common.{◌∙◌, ap, subst, codes}
 use Rattle.ila_base.specs.declared.refusal.NetRefusal.TheVariants as refusals
 use Rattle.vlog_check.specs.declared.found.Detail.TheVariants.{NoParameter}
 use Rattle.vlog_check.specs.Found.{IsLeastFinding, FindsIf}

@@ -1,4 +1,4 @@
-use Rattle.std.proofs.Common.{sym, ap, ◌∙◌, subst}
+use Rattle.std.proofs.Common.{subst}
 use Rattle.vlog_check.specs.Found.{IsLeastFinding}
 use Rattle.vlog_check.specs.FindingWidths.{FindsUndeclared, FindsFixedTarget, FindsWidth, target_width}
 use Rattle.vlog_check.proofs.LeastLaws.{least_four}

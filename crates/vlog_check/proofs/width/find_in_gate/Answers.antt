@@ -1,4 +1,4 @@
-use Rattle.std.proofs.Common.{◌≡◌, ◌<◌, length, ap, arith}
+use Rattle.std.proofs.Common.{length, ap, arith}
 use Rattle.vlog_check.specs.Found.{FindsAmong}
 use Rattle.vlog_check.specs.FindingWidths.{FindsInTerminal, FindsFewTerminals}
 use Rattle.vlog_check.proofs.LeastLaws.{least_start, least_step, least_end, least_joined, at_index}

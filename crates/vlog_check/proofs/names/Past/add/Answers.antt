@@ -1,4 +1,4 @@
-use Rattle.std.proofs.Common.{refl, sym, ap, ◌∙◌, Some, None}
+use Rattle.std.proofs.Common.{sym, ap, ◌∙◌, Some}
 use Rattle.std.specs.Option.{option_map}
 use Rattle.vlog_check.specs.Scope.{declared_by, directed_by, wired_by, placed_by}
 use Rattle.vlog_check.proofs.NameLaws.{said_nothing, said_more}
