@@ -9,3 +9,4 @@ pub mod Names
 pub mod Kinds
 pub mod Given
 pub mod Design
+pub mod CellRows

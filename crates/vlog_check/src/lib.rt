@@ -8,6 +8,7 @@ mod expr;
 mod found;
 mod inst;
 mod kind;
+mod laws;
 mod missing;
 mod modules;
 mod names;
@@ -17,3 +18,5 @@ mod spell;
 mod table;
 mod whole;
 mod width;
+
+pub use laws::rows_agree;
