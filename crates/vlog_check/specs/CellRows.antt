@@ -1,5 +1,5 @@
 -- The table by names and that by kinds have the same pins.
-use Rattle.std.specs.Prelude.{◌≡◌, ℕ, Bool, true, false, not, ◌&&◌, List, map, filter, codes, Some}
+use Rattle.std.specs.Prelude.{◌≡◌, ℕ, Bool, true, false, not, ◌&&◌, map, filter, codes, Some}
 use Rattle.std.specs.Str.{bytes_eq}
 use Rattle.net_core.specs.declared.kind.CellKind.{CellKind}
 use Rattle.net_core.specs.declared.kind.CellKind.TheVariants as kinds
