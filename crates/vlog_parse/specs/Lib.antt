@@ -8,3 +8,5 @@ pub mod Readers
 pub mod Skipping
 pub mod Limits
 pub mod Parsing
+pub mod Leaves
+pub mod ReadTree

@@ -1,0 +1,12 @@
+pub mod Found
+pub mod Cells
+pub mod Scope
+pub mod FindingNames
+pub mod FindingWidths
+pub mod FindingPins
+pub mod Checked
+pub mod Names
+pub mod Kinds
+pub mod Given
+pub mod Design
+pub mod CellRows

@@ -1,0 +1,22 @@
+//! The checks of a netlist's names, pins and widths: of all findings the first one (IEEE 1364-2005,
+//! clauses 4, 5, 6, 7 and 12; UG953 for the primitives' pins and parameters).
+#![tactic(auto)]
+
+mod connect;
+mod design;
+mod expr;
+mod found;
+mod inst;
+mod kind;
+mod laws;
+mod missing;
+mod modules;
+mod names;
+mod params;
+mod primitive;
+mod spell;
+mod table;
+mod whole;
+mod width;
+
+pub use laws::rows_agree;
