@@ -210,7 +210,10 @@ const REFUSED: &[(&[u8], &[u8])] = &[
         b"module m (clk);\n  input clk;\n  always @(posedge clk) ;\nendmodule\n",
         b"ila: N2 3:3 always\n",
     ),
-    (b"module m (); `define a\n assign a = ;", b"ila: N2 1:14 define\n"),
+    (
+        b"module m (); `define a\n assign a = ;",
+        b"ila: N2 1:14 define\n",
+    ),
     (b"module m (); c # u (); assign", b"ila: N2 1:16 #\n"),
     (b"module m (); assign a = 1'bx;", b"ila: N16 1:25\n"),
     (b"module m ();\n\x0b", b"ila: N1 2:1\n"),

@@ -17,6 +17,8 @@ mod parts;
 mod piece;
 mod place;
 mod programs;
+#[cfg(test)]
+mod rows;
 mod source;
 mod stop;
 #[cfg(test)]
