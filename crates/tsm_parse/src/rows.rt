@@ -1,4 +1,5 @@
 use crate::calls::{constant, fit, program};
+use crate::lexer::tokens;
 use crate::types::{Ast, AstFormula, TsmStop};
 use ila_base::{Digit, Place, TsmRefusal};
 use std::alloc::Global;
@@ -254,5 +255,35 @@ fn constants_and_widths(rt: HostRuntime) -> Result<(), Fail> {
     assert!(rt; constant(alloc, b"4'b")?.is_none());
     assert!(rt; constant(alloc, b"_4")?.is_none());
     assert!(rt; constant(alloc, b"4' b1")?.is_none());
+    Ok(())
+}
+
+const THREE: &[u8] = b"state a: if (p == 1 && q != 4'b1X0R) then set_flag $flag0; goto b; endif\n\
+    state b: if (3 < p || (q == 2)) then increment_counter $counter1; goto c;\n\
+    elseif (p == 1) then trigger; else goto a; endif\n\
+    state c: if ($counter1 >= 5) then trigger; endif";
+
+// Whether a front of the program that ends with a token is read where its last state is whole, and
+// else refused behind its last byte.
+fn is_judged(alloc: Global, front: &[u8]) -> Result<bool, Fail> {
+    let (_, end) = unmarked(alloc, front)?;
+    let whole = front.ends_with(b"endif");
+    match program(alloc, front) {
+        Ok(_) => Ok(whole),
+        Err(TsmStop::Refused(fault)) => {
+            Ok(!whole && fault.refusal == TsmRefusal::Syntax && fault.place == end)
+        }
+        Err(TsmStop::NoMemory) => Ok(false),
+    }
+}
+
+#[test]
+fn fronts_of_three_states(rt: HostRuntime) -> Result<(), Fail> {
+    let alloc = rt.alloc();
+    let found = tokens(alloc, THREE).ok().ok_or("no tokens")?;
+    for token in &found {
+        let front = THREE.get(..token.end as usize).unwrap_or(THREE);
+        assert!(rt; is_judged(alloc, front)?, "at {front:?}");
+    }
     Ok(())
 }
