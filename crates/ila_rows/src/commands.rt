@@ -9,6 +9,7 @@ const TOGGLE: &[u8] = b"module tog (clk, x, y); input clk; input x; output y; wi
 
 // What a call of `ila` is given, and what it must answer: the words, the numbers of the failing
 // calls of shelf, source and sink, the stimulus; the trace, the error line and the exit status.
+#[derive(Drop)]
 struct Row {
     words: &'static [&'static str],
     fails: [&'static [u32]; 3],
