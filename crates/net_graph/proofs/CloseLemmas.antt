@@ -1,9 +1,7 @@
 -- A node or a group is done, and the search ends.
-use Rattle.std.proofs.Common.{◌≡◌, ◌≢◌, ℕ, zero, suc, ◌+◌, ◌-◌, ◌*◌, ◌<◌, ◌≤◌, List, [], ◌∷◌, ◌++◌, length, take, drop, slice_get, slice_index, Option, Some, None, refl, ap, sym, ◌∙◌, subst, arith, ◌⊎◌, inl, inr, sum_by, get_or}
+use Rattle.std.proofs.Common.{◌≡◌, ◌≢◌, ℕ, ◌+◌, ◌-◌, ◌<◌, ◌≤◌, List, [], length, take, drop, slice_get, slice_index, Option, Some, None, refl, ap, sym, ◌∙◌, subst, arith, ◌⊎◌, inl, inr, get_or}
 use Rattle.std.proofs.lemmas.Bool.{cases_eq, cases_lt}
-use Rattle.std.proofs.lemmas.List.{length-take}
-use Rattle.std.proofs.lemmas.List.Sums.{sum_by_push}
-use Rattle.std.proofs.lemmas.Option.{slice_get_within, slice_get-get_or, get_or_from_slice_get, same_Some}
+use Rattle.std.proofs.lemmas.Option.{slice_get_within, slice_get-get_or, same_Some}
 use Rattle.net_graph.specs.declared.graph.Graph.{Graph}
 use Rattle.net_graph.specs.declared.components.Stage.{Stage}
 use Rattle.net_graph.specs.declared.components.Stage.TheVariants.{New, Open, Done}
@@ -11,9 +9,9 @@ use Rattle.net_graph.specs.declared.components.Branch.{Branch}
 use Rattle.net_graph.specs.Graph.{Leads}
 use Rattle.net_graph.specs.Reach.{IsIn}
 use Rattle.net_graph.specs.Recurrent.{LeadsFar, LeadsTo, one, more, IsRecurrent, IsLeastRecurrent}
-use Rattle.net_graph.specs.Components.{NotBefore, IsNoted, IsSettled, IsPast, IsSplit, AreDone, AreNoted, KeepsSeen, work, new_one}
-use Rattle.net_graph.proofs.FarLemmas.{far_after, to_far, far_to, to_after, to_other, in_take, take_in, in_drop, drop_in, in_one}
-use Rattle.net_graph.proofs.ComponentLemmas.{new_not_open, new_not_done, open_not_done, same_place, member_low, branch_low, bound_low, bounds_below, far_done, to_done}
+use Rattle.net_graph.specs.Components.{NotBefore, IsNoted, IsSettled, IsPast, IsSplit, AreDone, AreNoted}
+use Rattle.net_graph.proofs.FarLemmas.{far_after, to_other, in_take, take_in, in_drop, drop_in}
+use Rattle.net_graph.proofs.ComponentLemmas.{open_not_done, same_place, bounds_below, to_done}
 
 module _ (graph : Graph) (end : ℕ) (stages : List Stage) (members bounds : List ℕ) (path : List Branch) (least : Option ℕ)
     (split : IsSplit graph end stages members bounds path least) (k n : ℕ) (s : Branch) (at : slice_get path k ≡ Some s) (final : k + 1 ≡ length path)

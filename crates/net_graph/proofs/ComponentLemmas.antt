@@ -1,19 +1,18 @@
 -- The search for components step by step: a node is opened, groups become one, an edge is passed, and a node or a group is done.
-use Rattle.std.proofs.Common.{◌≡◌, ◌≢◌, ℕ, zero, suc, ◌+◌, ◌-◌, ◌*◌, ◌<◌, ◌≤◌, List, [], ◌∷◌, ◌++◌, length, take, drop, slice_get, slice_index, Option, Some, None, refl, ap, sym, ◌∙◌, subst, arith, ◌⊎◌, inl, inr, sum_by, get_or}
+use Rattle.std.proofs.Common.{◌≡◌, ◌≢◌, ℕ, zero, suc, ◌+◌, ◌<◌, ◌≤◌, List, [], ◌∷◌, length, slice_get, slice_index, Option, Some, refl, ap, sym, ◌∙◌, subst, arith, ◌⊎◌, inl, inr}
 use Rattle.std.proofs.Math.ListN.{set}
 use Rattle.std.proofs.lemmas.Bool.{cases_eq, cases_lt}
-use Rattle.std.proofs.lemmas.List.{length-set, length-append, length-take}
-use Rattle.std.proofs.lemmas.Option.{slice_get_within, slice_get-get_or, get_or_from_slice_get, same_Some}
+use Rattle.std.proofs.lemmas.Option.{slice_get_within, same_Some}
 use Rattle.net_graph.specs.declared.graph.Graph.{Graph}
 use Rattle.net_graph.specs.declared.components.Stage.{Stage}
 use Rattle.net_graph.specs.declared.components.Stage.TheVariants.{New, Open, Done}
 use Rattle.net_graph.specs.declared.components.Branch.{Branch}
 use Rattle.net_graph.specs.Graph.{Leads}
 use Rattle.net_graph.specs.Reach.{IsIn}
-use Rattle.net_graph.specs.Recurrent.{LeadsFar, LeadsTo, one, more, IsRecurrent, IsLeastRecurrent}
-use Rattle.net_graph.specs.Components.{NotBefore, IsNoted, IsSettled, IsPast, IsSplit, AreCut, AreDone, AreNoted}
-use Rattle.net_graph.proofs.ListLemmas.{slice_get_set_same, slice_get_set_other, slice_get_left, slice_get_last, slice_get_pushed}
-use Rattle.net_graph.proofs.FarLemmas.{far_after, to_far, far_to, to_after, to_other, in_take, take_in, in_drop, drop_in, in_one}
+use Rattle.net_graph.specs.Recurrent.{LeadsFar, LeadsTo, one, more, IsRecurrent}
+use Rattle.net_graph.specs.Components.{NotBefore, IsNoted, IsSettled, IsPast, IsSplit, AreCut, AreNoted}
+use Rattle.net_graph.proofs.ListLemmas.{slice_get_set_same, slice_get_set_other}
+use Rattle.net_graph.proofs.FarLemmas.{far_to, to_after, in_take, in_one}
 
 pub new_not_open : (stages : List Stage) (n i : ℕ) → slice_get stages n ≡ Some New → slice_get stages n ≡ Some (Open i) → ⊥
 new_not_open stages n i new open_ = let e : New ≡ Open i = same_Some _ _ (sym new ∙ open_) in cc e

@@ -1,8 +1,7 @@
 -- Ways along edges, joined; and elements of the parts of a list.
-use Rattle.std.proofs.Common.{◌≡◌, ◌≢◌, ℕ, zero, suc, ◌+◌, ◌<◌, ◌≤◌, List, [], ◌∷◌, length, take, drop, slice_get, Some, refl, ap, sym, ◌∙◌, subst, arith, ◌⊎◌, inl, inr, add-one}
+use Rattle.std.proofs.Common.{◌≡◌, ◌≢◌, ℕ, zero, suc, ◌+◌, ◌<◌, List, [], ◌∷◌, take, drop, slice_get, Some, ap, sym, ◌∙◌, subst, arith, ◌⊎◌, inl, inr}
 use Rattle.std.proofs.lemmas.Bool.{cases_eq}
 use Rattle.net_graph.specs.declared.graph.Graph.{Graph}
-use Rattle.net_graph.specs.Graph.{Leads}
 use Rattle.net_graph.specs.Reach.{IsIn}
 use Rattle.net_graph.specs.Recurrent.{LeadsFar, LeadsTo, one, more}
 

@@ -1,21 +1,20 @@
 -- A new node is opened that leads to all open ones.
-use Rattle.std.proofs.Common.{◌≡◌, ◌≢◌, ℕ, zero, suc, ◌+◌, ◌-◌, ◌*◌, ◌<◌, ◌≤◌, List, [], ◌∷◌, ◌++◌, length, slice_get, slice_index, Option, Some, None, refl, ap, sym, ◌∙◌, subst, arith, ◌⊎◌, inl, inr, sum_by, get_or, replicate}
+use Rattle.std.proofs.Common.{◌≡◌, ◌≢◌, ℕ, zero, suc, ◌+◌, ◌-◌, ◌<◌, ◌≤◌, List, [], ◌∷◌, ◌++◌, length, slice_get, slice_index, Option, Some, None, refl, ap, sym, ◌∙◌, subst, arith, inl, inr, replicate}
 use Rattle.std.proofs.Math.ListN.{set}
-use Rattle.std.proofs.lemmas.Bool.{cases_eq, cases_lt}
-use Rattle.std.proofs.lemmas.List.{length-set, length-append, length-replicate}
+use Rattle.std.proofs.lemmas.Bool.{cases_eq}
+use Rattle.std.proofs.lemmas.List.{length-set, length-replicate}
 use Rattle.std.proofs.lemmas.List.Sums.{sum_by-set, sum_by_push}
 use Rattle.std.proofs.lemmas.Option.{slice_get_within, slice_get-get_or, get_or_from_slice_get, same_Some}
 use Rattle.net_graph.specs.declared.graph.Graph.{Graph}
 use Rattle.net_graph.specs.declared.components.Stage.{Stage}
 use Rattle.net_graph.specs.declared.components.Stage.TheVariants.{New, Open, Done}
 use Rattle.net_graph.specs.declared.components.Branch.{Branch}
-use Rattle.net_graph.specs.Graph.{Leads}
 use Rattle.net_graph.specs.Rows.{AreRows}
 use Rattle.net_graph.specs.Reach.{IsIn}
-use Rattle.net_graph.specs.Recurrent.{LeadsFar, LeadsTo}
-use Rattle.net_graph.specs.Components.{NotBefore, IsNoted, IsSettled, IsPast, IsSplit, KeepsSeen, KeepsPath, work, new_one}
+use Rattle.net_graph.specs.Recurrent.{LeadsTo}
+use Rattle.net_graph.specs.Components.{NotBefore, IsSettled, IsPast, IsSplit, KeepsSeen, KeepsPath, work, new_one}
 use Rattle.net_graph.proofs.ListLemmas.{slice_get_set_same, slice_get_set_other, slice_get_left, slice_get_last, slice_get_pushed}
-use Rattle.net_graph.proofs.ComponentLemmas.{new_not_open, new_not_done, open_not_done, same_place, member_low, branch_low, bound_low}
+use Rattle.net_graph.proofs.ComponentLemmas.{new_not_open, open_not_done, same_place, branch_low, bound_low}
 
 -- the branch of a node that is opened
 abbrev pub fresh : List ℕ → ℕ → Branch

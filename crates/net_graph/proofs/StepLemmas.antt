@@ -1,14 +1,14 @@
 -- What the search for components notes, is done with, and cuts off, one node after another.
-use Rattle.std.proofs.Common.{◌≡◌, ◌≢◌, ℕ, zero, suc, ◌+◌, ◌-◌, ◌<◌, ◌≤◌, List, [], ◌∷◌, length, take, drop, slice_get, Option, Some, None, refl, ap, sym, ◌∙◌, subst, arith, ◌⊎◌, inl, inr, sum_by, get_or}
+use Rattle.std.proofs.Common.{◌≡◌, ℕ, zero, suc, ◌+◌, ◌-◌, ◌<◌, ◌≤◌, List, [], ◌∷◌, length, take, slice_get, Option, Some, refl, ap, sym, ◌∙◌, subst, arith, inl, inr, get_or}
 use Rattle.std.proofs.Math.ListN.{set}
 use Rattle.std.proofs.lemmas.Bool.{cases_eq, cases_lt}
 use Rattle.std.proofs.lemmas.List.{length-set, length-take}
 use Rattle.std.proofs.lemmas.List.Sums.{sum_by-set}
 use Rattle.std.proofs.lemmas.Option.{slice_get_within, slice_get-get_or, get_or_from_slice_get, same_Some}
 use Rattle.net_graph.specs.declared.components.Stage.{Stage}
-use Rattle.net_graph.specs.declared.components.Stage.TheVariants.{New, Open, Done}
+use Rattle.net_graph.specs.declared.components.Stage.TheVariants.{Done}
 use Rattle.net_graph.specs.Reach.{IsIn}
-use Rattle.net_graph.specs.Components.{IsNoted, AreNoted, AreDone, AreCut, new_one}
+use Rattle.net_graph.specs.Components.{AreNoted, AreDone, AreCut, new_one}
 use Rattle.net_graph.proofs.ListLemmas.{slice_get_set_same, slice_get_set_other}
 use Rattle.net_graph.proofs.FarLemmas.{in_take, take_in, in_one, take_more_in, take_fewer_in, take_last_in}
 

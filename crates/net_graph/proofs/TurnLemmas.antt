@@ -1,19 +1,19 @@
 -- One turn of the search for components: the last node of the path is done, with its group where it began one, or an edge is passed.
-use Rattle.std.proofs.Common.{◌≡◌, ◌≢◌, ℕ, zero, suc, ◌+◌, ◌-◌, ◌*◌, ◌<◌, ◌≤◌, List, [], ◌∷◌, ◌++◌, length, take, drop, slice_get, slice_index, Option, Some, None, refl, ap, sym, ◌∙◌, subst, arith, ◌⊎◌, inl, inr, sum_by, get_or}
+use Rattle.std.proofs.Common.{◌≡◌, ◌≢◌, ℕ, zero, suc, ◌+◌, ◌-◌, ◌<◌, ◌≤◌, List, [], ◌∷◌, ◌++◌, length, take, drop, slice_get, Option, Some, refl, ap, sym, ◌∙◌, subst, arith, inl, inr, sum_by, get_or}
 use Rattle.std.proofs.Math.ListN.{set}
-use Rattle.std.proofs.lemmas.Bool.{cases_eq, cases_lt}
+use Rattle.std.proofs.lemmas.Bool.{cases_eq}
 use Rattle.std.proofs.lemmas.List.Sums.{sum_by_push, sum_by-set}
-use Rattle.std.proofs.lemmas.Option.{slice_get_within, slice_get-get_or, get_or_from_slice_get, same_Some}
+use Rattle.std.proofs.lemmas.Option.{slice_get_within, slice_get-get_or, get_or_from_slice_get}
 use Rattle.net_graph.specs.declared.graph.Graph.{Graph}
 use Rattle.net_graph.specs.declared.components.Stage.{Stage}
-use Rattle.net_graph.specs.declared.components.Stage.TheVariants.{New, Open, Done}
+use Rattle.net_graph.specs.declared.components.Stage.TheVariants.{New, Open}
 use Rattle.net_graph.specs.declared.components.Branch.{Branch}
 use Rattle.net_graph.specs.Rows.{AreRows}
 use Rattle.net_graph.specs.Graph.{Leads}
 use Rattle.net_graph.specs.Recurrent.{one}
 use Rattle.net_graph.specs.Reach.{IsIn}
 use Rattle.net_graph.specs.Components.{IsSettled, IsSplit, IsOver, AreCut, AreDone, AreNoted, IsNoted, KeepsSeen, work, new_one}
-use Rattle.net_graph.proofs.ComponentLemmas.{bounds_below, moved_on, split_moved, split_noted, split_cut, settled_cut}
+use Rattle.net_graph.proofs.ComponentLemmas.{bounds_below, moved_on, split_noted, split_cut, settled_cut}
 use Rattle.net_graph.proofs.CloseLemmas.{split_left, split_closed}
 
 -- a list is all but its last element, and that

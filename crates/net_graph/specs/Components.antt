@@ -1,6 +1,6 @@
 -- The search backwards along the edges for nodes that lead to themselves: open nodes in groups, one behind another. Each open node
 -- is led to by those of its own group and of the later ones; done nodes are led to by done nodes alone.
-use Rattle.std.specs.Prelude.{◌≡◌, ℕ, ◌+◌, ◌*◌, ◌-◌, ◌<◌, ◌≤◌, List, take, sum_by, length, slice_get, slice_index, Option, Some, None, ◌⊎◌}
+use Rattle.std.specs.Prelude.{◌≡◌, ℕ, ◌+◌, ◌*◌, ◌-◌, ◌<◌, ◌≤◌, List, take, sum_by, length, slice_get, slice_index, Option, Some, ◌⊎◌}
 use Rattle.net_graph.specs.declared.graph.Graph.{Graph}
 use Rattle.net_graph.specs.declared.components.Stage.{Stage}
 use Rattle.net_graph.specs.declared.components.Stage.TheVariants.{New, Open, Done}

@@ -1,4 +1,4 @@
-use Rattle.std.proofs.Common.{◌<◌, ◌≡◌, ◌-◌, ◌∙◌, ap, length, get_or, arith}
+use Rattle.std.proofs.Common.{◌≡◌, ◌-◌, ap, length, get_or, arith}
 use Rattle.std.proofs.lemmas.List.{get_or_read}
 use Rattle.net_graph.proofs.StepLemmas.{cut_done}
 use Rattle.net_graph.proofs.components.join.Goals as goal

@@ -1,6 +1,5 @@
-use Rattle.std.proofs.Common.{◌≡◌, ◌++◌, ◌∷◌, [], ℕ, List, slice_index, slice_get, Some, ap, sym, ◌∙◌, subst, refl, arith}
+use Rattle.std.proofs.Common.{◌≡◌, ◌++◌, ◌∷◌, [], ℕ, List, slice_index, slice_get, Some, ap, ◌∙◌, subst, arith}
 use Rattle.net_graph.specs.Components.{IsSplit}
-use Rattle.net_graph.specs.declared.components.Stage.TheVariants.{New, Open}
 use Rattle.net_graph.proofs.ComponentLemmas.{new_not_open}
 use Rattle.net_graph.proofs.CloseLemmas.{split_end}
 use Rattle.net_graph.proofs.recurrent.least_recurrent.Goals as goal

@@ -1,9 +1,7 @@
-use Rattle.std.proofs.Common.{◌≡◌, ◌-◌, ◌∙◌, ap, sym, refl, length, take, List, get_or, arith}
+use Rattle.std.proofs.Common.{◌≡◌, ◌-◌, ◌∙◌, ap, sym, length, take, get_or, arith}
 use Rattle.std.proofs.lemmas.List.{get_or_read}
-use Rattle.net_graph.specs.declared.components.Branch.{Branch}
 use Rattle.net_graph.proofs.ComponentLemmas.{member_low}
 use Rattle.net_graph.proofs.TurnLemmas.{bounds_some, left, closed, work_left}
-use Rattle.net_graph.proofs.components.Split.leave.Given.{Over}
 use Rattle.net_graph.proofs.components.Split.leave.Goals as goal
 
 pub close-requires-clause-nodes : goal.close-requires-clause-nodes

@@ -1,8 +1,8 @@
-use Rattle.std.proofs.Common.{◌≡◌, ◌+◌, ◌<◌, slice_index, length, arith}
+use Rattle.std.proofs.Common.{◌≡◌, slice_index, length, arith}
 use Rattle.std.proofs.lemmas.List.{get_or_read}
 use Rattle.std.proofs.lemmas.Option.{slice_get_within}
 use Rattle.net_graph.specs.declared.components.Stage.TheVariants.{New}
-use Rattle.net_graph.proofs.OpenLemmas.{split_opened, settled_opened, seen_opened, work_opened, path_opened, fresh}
+use Rattle.net_graph.proofs.OpenLemmas.{split_opened, settled_opened, seen_opened, work_opened, path_opened}
 use Rattle.net_graph.proofs.components.Split.open.Given.{Over}
 use Rattle.net_graph.proofs.components.Split.open.Goals as goal
 
