@@ -9,3 +9,5 @@ pub mod InputLaws
 pub mod MissingLaws
 pub mod FewLaws
 pub mod DesignLaws
+pub mod ContainedLaws
+pub mod CheckedLaws

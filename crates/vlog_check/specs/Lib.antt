@@ -10,3 +10,4 @@ pub mod Kinds
 pub mod Given
 pub mod Design
 pub mod CellRows
+pub mod Contained

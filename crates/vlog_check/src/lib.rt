@@ -2,7 +2,9 @@
 //! clauses 4, 5, 6, 7 and 12; UG953 for the primitives' pins and parameters).
 #![tactic(auto)]
 
+mod checked;
 mod connect;
+mod contained;
 mod design;
 mod expr;
 mod found;
@@ -19,4 +21,5 @@ mod table;
 mod whole;
 mod width;
 
+pub use checked::{Checked, check};
 pub use laws::rows_agree;

@@ -9,6 +9,7 @@ ghost use Rattle.vlog_parse.specs.Design.{design_over};
 ghost use Rattle.vlog_parse.specs.Skipping.{cut};
 ghost use Rattle.vlog_parse.specs.Limits.{first_excess};
 ghost use Rattle.vlog_parse.specs.Parsing.{is_outside, construct_name, place_of_rest, HasNoOutside, IsConstructFault, IsSyntaxFault, IsRefusal, IsReadAs};
+ghost use Rattle.vlog_parse.specs.ReadTree.{IsReadTree};
 
 use crate::lexeme::bytes_of;
 use crate::limits::Excess;
@@ -108,6 +109,9 @@ pub fn parse(alloc: Global, text: &[u8], tokens: &[Token]) -> Result<Tree, NetSt
     requires { IsReading text.now tokens.now None }
     // The tokens are those of one design, whose tree this is (`one_tree`).
     ensures found { IfOk result (IsReadAs text.now tokens.now) }
+    // Its names are spelled, its constants have their bits, its indices are within their limit, and
+    // it has no more of anything than a text has bytes.
+    ensures read { IfOk result IsReadTree }
     // They are refused for the first cause alone.
     ensures refused { IfErr result (StopsFor (IsRefusal text.now tokens.now)) }
 {

@@ -1,7 +1,8 @@
 use Rattle.std.proofs.Common.{sym, ◌∙◌, ap, false}
 use Rattle.vlog_parse.specs.Limits.{first_excess}
-use Rattle.vlog_parse.specs.Parsing.{limit}
+use Rattle.vlog_parse.specs.Parsing.{IsReadAs, limit}
 use Rattle.vlog_parse.proofs.ParseLaws.{reading_within, limit_fault, read_as}
+use Rattle.vlog_parse.proofs.TreeFacts.{read_as_tree}
 use Rattle.vlog_parse.proofs.source.parse.Goals as goal
 
 pub check_profile-requires : goal.check_profile-requires
@@ -22,3 +23,10 @@ pub returns-in-None-clause-found : goal.returns-in-None-clause-found
 returns-in-None-clause-found c =
     read_as c.args.text.now c.args.tokens.now c.in_ok-tree.tree c.in_ok-check_profile.ensures.ok c.in_ok-tree.ensures.ok
     (ap (first_excess 0 false) (sym c.new.ensures) ∙ sym c.excess.ensures ∙ c.in-None.is)
+
+pub returns-in-None-clause-read : goal.returns-in-None-clause-read
+returns-in-None-clause-read c =
+    let read : IsReadAs c.args.text.now c.args.tokens.now c.in_ok-tree.tree =
+    read_as c.args.text.now c.args.tokens.now c.in_ok-tree.tree c.in_ok-check_profile.ensures.ok c.in_ok-tree.ensures.ok
+    (ap (first_excess 0 false) (sym c.new.ensures) ∙ sym c.excess.ensures ∙ c.in-None.is) in
+    read_as_tree c.args.text.now c.args.tokens.now c.in_ok-tree.tree c.requires read
