@@ -1,0 +1,16 @@
+//! A checked hierarchy unfolded: its nets, cells and links under flat names, with all links as cells.
+#![tactic(auto)]
+
+mod cells;
+mod deep;
+mod exprs;
+mod gates;
+mod groups;
+mod leaves;
+mod ports;
+mod prefix;
+mod shape;
+mod state;
+mod whole;
+
+pub use whole::unfold;
