@@ -1,3 +1,5 @@
 mod Lists
 mod RunLaws
 mod OrderLaws
+mod MentionLaws
+mod GroupLaws
