@@ -3,3 +3,5 @@ mod RunLaws
 mod OrderLaws
 mod MentionLaws
 mod GroupLaws
+mod SoundLaws
+mod KnownLaws
