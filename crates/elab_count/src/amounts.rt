@@ -1,3 +1,8 @@
+ghost use Rattle.std.specs.Prelude.{◌≡◌, ℕ, ◌+◌, ◌*◌, ◌<◌, ◌^◌};
+ghost use Rattle.elab_design.specs.Limits.{carried};
+ghost use Rattle.elab_count.specs.Counting as counting;
+ghost use Rattle.elab_count.specs.declared.amounts.Count.{Count as CountOf};
+
 /// Above this no count is told apart from it.
 pub const MOST: u64 = 1_000_000_000_000;
 
@@ -17,7 +22,9 @@ pub struct Count {
     pub bytes: u64,
 }
 
-fn plus(a: u64, b: u64) -> u64 {
+fn plus(a: u64, b: u64) -> u64
+    ensures { result ≡ carried (a + b) }
+{
     a.saturating_add(b).min(MOST)
 }
 
@@ -33,7 +40,9 @@ impl Count {
     };
 
     /// Cells with so many pins in all.
-    pub fn of_cells(cells: u64, pins: u64) -> Count {
+    pub fn of_cells(cells: u64, pins: u64) -> Count
+        ensures { result ≡ counting.capped (counting.cells_count cells pins) }
+    {
         Count {
             cells: plus(cells, 0),
             pins: plus(pins, 0),
@@ -42,7 +51,9 @@ impl Count {
     }
 
     /// A net of so many bits with an identifier of so many bytes.
-    pub fn of_net(bits: u64, length: usize) -> Count {
+    pub fn of_net(bits: u64, length: usize) -> Count
+        ensures { result ≡ counting.capped (record counting.nothing { nets = bits; names = 1; bytes = length }) }
+    {
         Count {
             nets: plus(bits, 0),
             names: 1,
@@ -52,7 +63,9 @@ impl Count {
     }
 
     /// The count of a cell with an identifier of so many bytes.
-    pub fn named(self, length: usize) -> Count {
+    pub fn named(self, length: usize) -> Count
+        ensures { (c : CountOf) → self ≡ counting.capped c → result ≡ counting.capped (counting.with_name length c) }
+    {
         Count {
             names: plus(self.names, 1),
             bytes: plus(self.bytes, length as u64),
@@ -61,7 +74,9 @@ impl Count {
     }
 
     /// Both together.
-    pub fn with(self, other: Count) -> Count {
+    pub fn with(self, other: Count) -> Count
+        ensures { (a b : CountOf) → self ≡ counting.capped a → other ≡ counting.capped b → result ≡ counting.capped (counting.together a b) }
+    {
         Count {
             depth: self.depth.max(other.depth),
             cells: plus(self.cells, other.cells),
@@ -74,7 +89,10 @@ impl Count {
 
     /// The same seen from outside an instance with a name of so many bytes, which stands with a slash
     /// before each identifier.
-    pub fn behind(self, length: usize) -> Count {
+    pub fn behind(self, length: usize) -> Count
+        requires { length + 1 < 2 ^ 64 }
+        ensures { (c : CountOf) → self ≡ counting.capped c → result ≡ counting.capped (counting.behind length c) }
+    {
         let before = self.names.saturating_mul(length as u64 + 1);
         Count {
             depth: plus(self.depth, 1),

@@ -3,8 +3,8 @@ use vlog_check::range_width;
 use vlog_parse::{Conns, Expr, Range};
 
 fn width_of_net(nets: &Nets, name: &[u8]) -> u64 {
-    match nets.table.get(name) {
-        Some(net) => range_width(net.range),
+    match nets.ranges.get(name) {
+        Some(range) => range_width(range),
         None => 0,
     }
 }

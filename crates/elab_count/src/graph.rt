@@ -1,19 +1,18 @@
-use crate::numbers::{Part, part_of};
+use crate::numbers::{Modules, Part, part_of};
 use ila_base::NoMemory;
 use net_graph::Graph;
 use std::alloc::Global;
-use vlog_check::Table;
-use vlog_parse::{Item, Module, Tree};
+use vlog_parse::{Item, Module};
 
 // Adds the modules that a module has instances of.
 fn push_row(
-    numbers: &Table<usize>,
+    modules: &Modules,
     m: &Module,
     sources: &mut Vec<u32>,
 ) -> Result<(), NoMemory> {
     for item in m.items.as_slice() {
         if let Item::Inst(inst) = item {
-            if let Some(Part::Module(number)) = part_of(numbers, inst) {
+            if let Some(Part::Module(number)) = part_of(modules, inst) {
                 sources.push(number as u32)?;
             }
         }
@@ -25,15 +24,14 @@ fn push_row(
 /// a wanted module that has the instance.
 pub fn instance_graph(
     alloc: Global,
-    tree: &Tree,
-    numbers: &Table<usize>,
+    modules: &Modules,
     wanted: &[bool],
 ) -> Result<Option<Graph>, NoMemory> {
     let mut starts = vec![in alloc; 0]?;
     let mut sources = Vec::new(alloc);
-    for (k, m) in tree.modules.as_slice().iter().enumerate() {
+    for (k, m) in modules.tree.modules.as_slice().iter().enumerate() {
         if wanted[k] {
-            push_row(numbers, m, &mut sources)?;
+            push_row(modules, m, &mut sources)?;
         }
         starts.push(sources.len())?;
     }

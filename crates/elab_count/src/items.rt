@@ -1,10 +1,10 @@
 use crate::amounts::{Count, MOST};
 use crate::exprs::{width_of, width_of_conns};
 use crate::nets::{Nets, read_nets};
-use crate::numbers::{Part, part_of};
+use crate::numbers::{Modules, Part, part_of};
 use ila_base::{Name, NoMemory};
 use std::alloc::Global;
-use vlog_check::{Primitive, Size, Table, pins};
+use vlog_check::{Primitive, Size, pins, range_width};
 use vlog_parse::{Gate, Inst, Item, Module, Value};
 
 // The links of so many bits: each has two pins.
@@ -61,11 +61,11 @@ fn counted(counts: &[Option<Count>], number: usize) -> Count {
 
 fn count_inst(
     nets: &Nets,
-    numbers: &Table<usize>,
+    modules: &Modules,
     counts: &[Option<Count>],
     inst: &Inst,
 ) -> Count {
-    match part_of(numbers, inst) {
+    match part_of(modules, inst) {
         None => Count::ZERO,
         Some(Part::Cell(cell)) => count_leaf(cell, inst),
         Some(Part::Module(number)) => {
@@ -77,7 +77,7 @@ fn count_inst(
 
 fn count_item(
     nets: &Nets,
-    numbers: &Table<usize>,
+    modules: &Modules,
     counts: &[Option<Count>],
     item: &Item,
 ) -> Count {
@@ -85,14 +85,14 @@ fn count_item(
         Item::Net(_) => Count::ZERO,
         Item::Assign(target, _) => count_links(width_of(nets, target)),
         Item::Gate(g) => count_gate(g),
-        Item::Inst(inst) => count_inst(nets, numbers, counts, inst),
+        Item::Inst(inst) => count_inst(nets, modules, counts, inst),
     }
 }
 
 fn count_nets(nets: &Nets) -> Count {
     let mut count = Count::ZERO;
     for net in nets.order.as_slice() {
-        count = count.with(Count::of_net(vlog_check::range_width(net.1), net.0.len()));
+        count = count.with(Count::of_net(range_width(net.1), net.0.len()));
     }
     count
 }
@@ -100,14 +100,14 @@ fn count_nets(nets: &Nets) -> Count {
 /// What a module has, where the modules of its instances were counted before.
 pub fn count_module(
     alloc: Global,
-    numbers: &Table<usize>,
+    modules: &Modules,
     counts: &[Option<Count>],
     m: &Module,
 ) -> Result<Count, NoMemory> {
     let nets = read_nets(alloc, m)?;
     let mut count = count_nets(&nets);
     for item in m.items.as_slice() {
-        count = count.with(count_item(&nets, numbers, counts, item));
+        count = count.with(count_item(&nets, modules, counts, item));
     }
     Ok(count)
 }

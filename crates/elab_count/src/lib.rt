@@ -12,5 +12,5 @@ mod numbers;
 
 pub use amounts::{Count, MOST};
 pub use every::{Counts, count_all};
-pub use nets::{Net, Nets, read_nets};
-pub use numbers::{Part, part_of, read_numbers};
+pub use nets::{Nets, read_nets};
+pub use numbers::{Modules, Part, part_of, read_modules};

@@ -1,30 +1,34 @@
+ghost use Rattle.std.specs.Prelude.{◌≡◌, ℕ, List, [], ◌∷◌, ◌++◌, IfOk, OnOk};
+ghost use Rattle.vlog_parse.specs.declared.tree.Module.{Module as ModuleOf};
+ghost use Rattle.vlog_check.specs.Scope.{value_of, range_of};
+ghost use Rattle.elab_count.specs.Nets.{AreNets, IsMentioned, declared_names};
+
 use ila_base::NoMemory;
 use std::alloc::Global;
-use vlog_check::{Table, range_width};
+use vlog_check::Table;
 use vlog_parse::{Item, Module, Range};
-
-/// A net of a module: its range, and how many bits the nets before it have.
-#[derive(Clone, Copy, Debug)]
-pub struct Net {
-    pub range: Option<Range>,
-    pub first: u64,
-}
 
 /// The nets of a module.
 #[derive(Drop)]
 pub struct Nets<'a> {
-    pub table: Table<'a, Net>,
+    /// The range of each, that of its first declaration.
+    pub ranges: Table<'a, Option<Range>>,
     /// Their names in order of first mention in the header or a declaration, each with its range.
     pub order: Vec<(&'a [u8], Option<Range>)>,
-    /// How many bits they have.
-    pub width: u64,
+}
+
+/// The nets of a module, where some names were mentioned.
+#[derive(Drop)]
+pub struct Reading<'a> {
+    ranges: Table<'a, Option<Range>>,
+    seen: Table<'a, bool>,
+    order: Vec<(&'a [u8], Option<Range>)>,
 }
 
 // The range of each declared name, that of its first declaration.
-fn read_ranges<'a>(
-    alloc: Global,
-    m: &'a Module,
-) -> Result<Table<'a, Option<Range>>, NoMemory> {
+fn read_ranges<'a>(alloc: Global, m: &'a Module) -> Result<Table<'a, Option<Range>>, NoMemory>
+    ensures { IfOk result (λ ranges. (name : List ℕ) → value_of ranges name ≡ range_of m.now name) }
+{
     let mut ranges = Table::new(alloc);
     for item in m.items.as_slice() {
         if let Item::Net(d) = item {
@@ -34,59 +38,60 @@ fn read_ranges<'a>(
     Ok(ranges)
 }
 
-impl<'a> Nets<'a> {
-    /// No nets. It takes no memory.
-    pub fn new(alloc: Global) -> Nets<'a> {
-        Nets {
-            table: Table::new(alloc),
-            order: Vec::new(alloc),
-            width: 0,
-        }
-    }
-
-    // Adds a net, if it wasn't mentioned before.
-    fn mention(&mut self, name: &'a [u8], range: Option<Range>) -> Result<(), NoMemory> {
-        if self.table.get(name).is_some() {
+impl<'a> Reading<'a> {
+    // Mentions a name behind others.
+    fn mention(&mut self, name: &'a [u8]) -> Result<(), NoMemory>
+        ensures { OnOk result ((m : ModuleOf) (names : List (List ℕ)) → IsMentioned m names self.old → IsMentioned m (names ++ name.now ∷ []) self.new) }
+    {
+        if self.seen.get(name).is_some() {
             return Ok(());
         }
-        let net = Net {
-            range,
-            first: self.width,
-        };
-        self.table.put(name, net)?;
-        self.order.push((name, range))?;
-        self.width = self.width.saturating_add(range_width(range));
-        Ok(())
+        self.seen.put(name, true)?;
+        match self.ranges.get(name) {
+            None => Ok(()),
+            Some(range) => {
+                self.order.push((name, range))?;
+                Ok(())
+            }
+        }
     }
 }
 
-fn read_header<'a>(
-    nets: &mut Nets<'a>,
-    m: &'a Module,
-    ranges: &Table<Option<Range>>,
-) -> Result<(), NoMemory> {
+fn mention_header<'a>(reading: &mut Reading<'a>, m: &'a Module) -> Result<(), NoMemory>
+    ensures { OnOk result (IsMentioned m.now [] reading.old → IsMentioned m.now m.now.ports reading.new) }
+{
     for port in m.ports.as_slice() {
-        if let Some(range) = ranges.get(port.bytes()) {
-            nets.mention(port.bytes(), range)?;
-        }
+        reading.mention(port.bytes())?;
     }
     Ok(())
 }
 
-fn read_declarations<'a>(nets: &mut Nets<'a>, m: &'a Module) -> Result<(), NoMemory> {
+fn mention_declared<'a>(reading: &mut Reading<'a>, m: &'a Module) -> Result<(), NoMemory>
+    ensures { OnOk result (IsMentioned m.now m.now.ports reading.old → IsMentioned m.now (m.now.ports ++ declared_names m.now.items) reading.new) }
+{
     for item in m.items.as_slice() {
         if let Item::Net(d) = item {
-            nets.mention(d.name.bytes(), d.range)?;
+            reading.mention(d.name.bytes())?;
         }
     }
     Ok(())
 }
 
-/// The nets of a module, in order of first mention.
-pub fn read_nets<'a>(alloc: Global, m: &'a Module) -> Result<Nets<'a>, NoMemory> {
-    let ranges = read_ranges(alloc, m)?;
-    let mut nets = Nets::new(alloc);
-    read_header(&mut nets, m, &ranges)?;
-    read_declarations(&mut nets, m)?;
-    Ok(nets)
+/// The nets of a module.
+pub fn read_nets<'a>(alloc: Global, m: &'a Module) -> Result<Nets<'a>, NoMemory>
+    ensures { IfOk result (AreNets m.now) }
+{
+    let mut reading = Reading {
+        ranges: read_ranges(alloc, m)?,
+        seen: Table::new(alloc),
+        order: Vec::new(alloc),
+    };
+    mention_header(&mut reading, m)?;
+    mention_declared(&mut reading, m)?;
+    let Reading {
+        ranges,
+        seen: _,
+        order,
+    } = reading;
+    Ok(Nets { ranges, order })
 }

@@ -1,20 +1,35 @@
-use elab_count::{Net, Nets};
-use ila_base::{Items, NoMemory, Word};
+ghost use Rattle.std.specs.Prelude.{◌≡◌, ℕ, ◌+◌, ◌<◌, ◌^◌, ◌++◌, ◌==◌, true, map, slice_get, Some, OnOk};
+ghost use Rattle.std.specs.Int.{bit_at};
+ghost use Rattle.std.specs.List.{range_with_len};
+ghost use Rattle.vlog_parse.specs.Leaves.{Net as NetLeaf, Bit as BitLeaf, Part as PartLeaf};
+ghost use Rattle.vlog_check.specs.Scope.{range_width, has_index, is_declared, is_sound};
+ghost use Rattle.elab_design.specs.Design.{Path, Bit, indices, word_bits, sources, leaf_sources};
+ghost use Rattle.elab_design.specs.Raw.{pin};
+ghost use Rattle.elab_unfold.specs.Places.{net_pin, bit_pin, own_width, ArePlaces, Fits};
+
+use crate::places::{Net, Places};
+use ila_base::{Items, NoMemory, Place, Word};
 use net_core::{NetId, Pin};
 use vlog_check::range_width;
 use vlog_parse::{Expr, Range};
 
 /// Adds nets with consecutive numbers.
-pub fn push_nets(first: u32, count: u32, out: &mut Items<Pin>) -> Result<(), NoMemory> {
+pub fn push_nets(first: u32, count: u32, out: &mut Items<Pin>) -> Result<(), NoMemory>
+    requires { first + count < 2 ^ 32 }
+    ensures { OnOk result (out.new ≡ out.old ++ map net_pin (range_with_len first count)) }
+{
     for k in 0..count {
         out.push(Pin::Net(NetId(first + k)))?;
     }
     Ok(())
 }
 
-// The number of the bit with an index of a net, where the bits of the module's nets begin with `base`.
-fn number_at(net: Net, base: u32, index: u32) -> u32 {
-    let place = match net.range {
+// How many bits stand left of the one with an index.
+fn place_of(range: Option<Range>, index: u32) -> u32
+    requires { has_index range index ≡ true }
+    ensures { slice_get (indices range) result ≡ Some index }
+{
+    match range {
         None => 0,
         Some(range) => {
             if index < range.left {
@@ -23,65 +38,89 @@ fn number_at(net: Net, base: u32, index: u32) -> u32 {
                 index - range.left
             }
         }
-    };
-    base + net.first as u32 + place
+    }
 }
 
-// Adds the bits of a net, the leftmost first.
 fn push_whole(
-    nets: &Nets,
+    places: &Places,
     base: u32,
     name: &[u8],
+    place: Place,
     out: &mut Items<Pin>,
-) -> Result<(), NoMemory> {
-    match nets.table.get(name) {
+) -> Result<(), NoMemory>
+    requires places { ArePlaces places.now }
+    requires room { base + own_width places.now.holder.now < 2 ^ 32 }
+    requires sound { is_declared places.now.holder.now (NetLeaf name.now place) ≡ true }
+    ensures { OnOk result ((path : Path) (number : Bit → ℕ) → Fits places.now.holder.now path base number → out.new ≡ out.old ++ map (pin number) (leaf_sources places.now.holder.now path (NetLeaf name.now place))) }
+{
+    match places.nets.get(name) {
         None => Ok(()),
-        Some(net) => push_nets(
-            base + net.first as u32,
-            range_width(net.range) as u32,
-            out,
-        ),
+        Some(net) => push_nets(base + net.first, range_width(net.range) as u32, out),
     }
 }
 
 fn push_bit(
-    nets: &Nets,
+    places: &Places,
     base: u32,
     name: &[u8],
     index: u32,
+    place: Place,
     out: &mut Items<Pin>,
-) -> Result<(), NoMemory> {
-    match nets.table.get(name) {
+) -> Result<(), NoMemory>
+    requires places { ArePlaces places.now }
+    requires room { base + own_width places.now.holder.now < 2 ^ 32 }
+    requires sound { is_declared places.now.holder.now (BitLeaf name.now index place) ≡ true }
+    ensures { OnOk result ((path : Path) (number : Bit → ℕ) → Fits places.now.holder.now path base number → out.new ≡ out.old ++ map (pin number) (leaf_sources places.now.holder.now path (BitLeaf name.now index place))) }
+{
+    match places.nets.get(name) {
         None => Ok(()),
         Some(net) => {
-            out.push(Pin::Net(NetId(number_at(net, base, index))))?;
-            Ok(())
+            let first = base + net.first + place_of(net.range, index);
+            push_nets(first, 1, out)
         }
     }
 }
 
 fn push_part(
-    nets: &Nets,
+    places: &Places,
     base: u32,
     name: &[u8],
     part: Range,
+    place: Place,
     out: &mut Items<Pin>,
-) -> Result<(), NoMemory> {
-    match nets.table.get(name) {
+) -> Result<(), NoMemory>
+    requires places { ArePlaces places.now }
+    requires room { base + own_width places.now.holder.now < 2 ^ 32 }
+    requires sound { is_declared places.now.holder.now (PartLeaf name.now part.left part.right place) ≡ true }
+    ensures { OnOk result ((path : Path) (number : Bit → ℕ) → Fits places.now.holder.now path base number → out.new ≡ out.old ++ map (pin number) (leaf_sources places.now.holder.now path (PartLeaf name.now part.left part.right place))) }
+{
+    match places.nets.get(name) {
         None => Ok(()),
-        Some(net) => push_nets(
-            number_at(net, base, part.left),
-            range_width(Some(part)) as u32,
-            out,
-        ),
+        Some(net) => {
+            let first = base + net.first + place_of(net.range, part.left);
+            push_nets(first, range_width(Some(part)) as u32, out)
+        }
     }
 }
 
+fn has_bit(value: u128, i: u8) -> bool
+    ensures { result ≡ (bit_at value i == 1) }
+{
+    i < 128 && value >> i & 1 == 1
+}
+
+fn bit_pin(bit: bool) -> Pin
+    ensures { result ≡ bit_pin bit }
+{
+    if bit { Pin::One } else { Pin::Zero }
+}
+
 // Adds the bits of a constant, the most significant first.
-fn push_constant(word: Word, out: &mut Items<Pin>) -> Result<(), NoMemory> {
+fn push_constant(word: Word, out: &mut Items<Pin>) -> Result<(), NoMemory>
+    ensures { OnOk result (out.new ≡ out.old ++ map bit_pin (word_bits word)) }
+{
     for k in 0..word.width {
-        let one = word.value >> (word.width - 1 - k) & 1 == 1;
-        out.push(if one { Pin::One } else { Pin::Zero })?;
+        out.push(bit_pin(has_bit(word.value, word.width - 1 - k)))?;
     }
     Ok(())
 }
@@ -89,25 +128,32 @@ fn push_constant(word: Word, out: &mut Items<Pin>) -> Result<(), NoMemory> {
 /// Adds what the bits of an expression of a module are on, the most significant first, where the
 /// numbers of the module's net bits begin with `base`. It recurses as deep as concatenations are nested.
 pub fn push_pins(
-    nets: &Nets,
+    places: &Places,
     base: u32,
     e: &Expr,
     out: &mut Items<Pin>,
-) -> Result<(), NoMemory> {
+) -> Result<(), NoMemory>
+    requires places { ArePlaces places.now }
+    requires room { base + own_width places.now.holder.now < 2 ^ 32 }
+    requires sound { is_sound places.now.holder.now e.now ≡ true }
+    ensures { OnOk result ((path : Path) (number : Bit → ℕ) → Fits places.now.holder.now path base number → out.new ≡ out.old ++ map (pin number) (sources places.now.holder.now path e.now)) }
+{
     match e {
-        Expr::Whole(name, _) => push_whole(nets, base, name.bytes(), out),
-        Expr::Bit(name, index, _) => push_bit(nets, base, name.bytes(), *index, out),
-        Expr::Part(name, left, right, _) => {
+        Expr::Whole(name, place) => push_whole(places, base, name.bytes(), *place, out),
+        Expr::Bit(name, index, place) => {
+            push_bit(places, base, name.bytes(), *index, *place, out)
+        }
+        Expr::Part(name, left, right, place) => {
             let part = Range {
                 left: *left,
                 right: *right,
             };
-            push_part(nets, base, name.bytes(), part, out)
+            push_part(places, base, name.bytes(), part, *place, out)
         }
         Expr::Const(word, _) => push_constant(*word, out),
         Expr::Concat(parts) => {
             for part in parts.as_slice() {
-                push_pins(nets, base, part, out)?;
+                push_pins(places, base, part, out)?;
             }
             Ok(())
         }

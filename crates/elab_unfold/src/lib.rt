@@ -7,10 +7,13 @@ mod exprs;
 mod gates;
 mod groups;
 mod leaves;
+mod places;
+mod plan;
 mod ports;
 mod prefix;
 mod shape;
 mod state;
+mod steps;
 mod whole;
 
 pub use whole::unfold;

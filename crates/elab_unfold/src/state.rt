@@ -1,7 +1,6 @@
 use flat_settle::RawCell;
-use ila_base::{Items, NoMemory};
+use ila_base::Items;
 use net_core::Group;
-use std::alloc::Global;
 
 /// What was unfolded, and where the unfolding is.
 #[derive(Drop)]
@@ -9,7 +8,7 @@ pub struct State {
     pub groups: Items<Group>,
     pub cells: Items<RawCell>,
     /// How many bits the groups have.
-    pub nets: u64,
+    pub nets: u32,
     /// The names of the instances on the way, each with a slash behind it.
     pub prefix: Vec<u8>,
 }

@@ -16,7 +16,8 @@ fn tree_of(alloc: Global, text: &[u8]) -> Result<Tree, Fail> {
 fn unfolded(alloc: Global, text: &[u8], clock: &[u8]) -> Result<Vec<u8>, Fail> {
     let tree = tree_of(alloc, text)?;
     let counts = count_all(alloc, &tree, 0)?;
-    let raw = unfold(alloc, &tree, 0, clock, &counts)?;
+    let top = tree.modules.get(0).ok_or("no module")?;
+    let raw = unfold(alloc, &tree, top.name.bytes(), clock, 0, &counts)?;
     raw_text(alloc, &raw)
 }
 
