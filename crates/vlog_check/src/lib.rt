@@ -22,4 +22,7 @@ mod whole;
 mod width;
 
 pub use checked::{Checked, check};
+pub use expr::range_width;
 pub use laws::rows_agree;
+pub use primitive::{CellPin, Primitive, Size, cell_of, pins};
+pub use table::Table;

@@ -1,0 +1,7 @@
+mod Lists
+mod RunLaws
+mod OrderLaws
+mod MentionLaws
+mod GroupLaws
+mod SoundLaws
+mod KnownLaws
