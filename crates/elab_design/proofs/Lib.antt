@@ -5,3 +5,7 @@ mod MentionLaws
 mod GroupLaws
 mod SoundLaws
 mod KnownLaws
+mod PortLaws
+mod DrivenLaws
+mod NameLaws
+mod SettledLaws
