@@ -9,3 +9,6 @@ mod PortLaws
 mod DrivenLaws
 mod NameLaws
 mod SettledLaws
+mod DifferLaws
+mod BitLaws
+mod OneLaws
