@@ -5,3 +5,10 @@ mod MentionLaws
 mod GroupLaws
 mod SoundLaws
 mod KnownLaws
+mod PortLaws
+mod DrivenLaws
+mod NameLaws
+mod SettledLaws
+mod DifferLaws
+mod BitLaws
+mod OneLaws

@@ -41,6 +41,14 @@ in_filter_map f xs x y (j, at) gives = filter_map_at f xs j x y at gives
 pub filter_map_in : {X Y : Type 0} (f : X → Option Y) (xs : List X) (y : Y) → In (filter_map f xs) y → (x : X) × In xs x × (f x ≡ Some y)
 filter_map_in f xs y (k, at) = let own = filter_map_some f xs k y at in (own.1, (own.0, own.2), own.3)
 
+pub same_on : {X Y : Type 0} (f g : X → Y) (xs : List X) → ((x : X) → In xs x → f x ≡ g x) → map f xs ≡ map g xs
+same_on f g [] same = refl
+same_on f g (x ∷ xs) same = λ i. same x (0, refl) i ∷ same_on f g xs (λ y own. same y (suc own.0, own.1)) i
+
+pub map_of_map : {X Y Z : Type 0} (g : Y → Z) (f : X → Y) (xs : List X) → map g (map f xs) ≡ map (λ x. g (f x)) xs
+map_of_map g f [] = refl
+map_of_map g f (x ∷ xs) = ap (λ ys. g (f x) ∷ ys) (map_of_map g f xs)
+
 -- names with their numbers
 
 numbered : (a : ℕ) (names : List (List ℕ)) (k : ℕ) → slice_get (numbered_from a names) k ≡ option_map (λ (name : List ℕ). (name, a + k)) (slice_get names k)

@@ -1,5 +1,5 @@
 -- The runs of a design and of a flat netlist with its cells.
-use Rattle.std.proofs.Common.{◌≡◌, ◌↔◌, ℕ, suc, ◌+◌, ◌<◌, Bool, true, false, List, [], ◌∷◌, map, slice_get, Option, Some, ◌⊎◌, inl, inr, refl, ap, sym, ◌∙◌, subst, arith, true≢false}
+use Rattle.std.proofs.Common.{◌≡◌, ◌↔◌, ℕ, ◌+◌, ◌<◌, Bool, true, false, List, map, slice_get, Option, Some, ◌⊎◌, inl, inr, refl, ap, sym, ◌∙◌, subst, arith, true≢false}
 use Rattle.std.specs.Option.{option_map}
 use Rattle.std.proofs.lemmas.Bool.{false_from_ne_true}
 use Rattle.std.proofs.lemmas.Option.{slice_get-map}
@@ -20,6 +20,7 @@ use Rattle.elab_design.specs.DesignRuns.{data_inputs, Driven, InClock, IsDataBit
 use Rattle.elab_design.specs.Names.{flat_name, IsBitNamed, Carries}
 use Rattle.elab_design.specs.Raw.{net_id, pin, out_nets}
 use Rattle.elab_design.specs.Elaborates.{flat_cell}
+use Rattle.elab_design.proofs.Lists.{same_on, map_of_map}
 
 -- The flat netlist has the design's kept cells, with numbers for net bits, and knows the bits that the design reads and drives.
 pub record Flattens (d : Design) (net : Netlist) (number : Bit → ℕ) (known : List Bit) (left : List DesignCell) : Type 0 where
@@ -33,16 +34,6 @@ pub record Flattens (d : Design) (net : Netlist) (number : Bit → ℕ) (known :
   pub clocked : (b : Bit) → In known b → (is_clock net (number b) ≡ true) ↔ InClock d b
   pub inputs : input_nets net ≡ map number (data_inputs d)
   pub named : (b : Bit) → In known b → (word : List ℕ) × IsBitNamed d b word × IsNetNamed net word (number b)
-
--- Lists
-
-same_on : {X Y : Type 0} (f g : X → Y) (xs : List X) → ((x : X) → In xs x → f x ≡ g x) → map f xs ≡ map g xs
-same_on f g [] same = refl
-same_on f g (x ∷ xs) same = λ i. same x (0, refl) i ∷ same_on f g xs (λ y own. same y (suc own.0, own.1)) i
-
-map_of_map : {X Y Z : Type 0} (g : Y → Z) (f : X → Y) (xs : List X) → map g (map f xs) ≡ map (λ x. g (f x)) xs
-map_of_map g f [] = refl
-map_of_map g f (x ∷ xs) = ap (λ ys. g (f x) ∷ ys) (map_of_map g f xs)
 
 -- A cell of a design has a name, or it is a gate, which stores nothing
 

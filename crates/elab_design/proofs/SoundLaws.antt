@@ -127,13 +127,13 @@ some_direction : (o : Option Port) → is_none (option_map (λ (port : Port). po
 some_direction None is = absurd (true≢false is)
 some_direction (Some port) is = refl
 
-take_get : {X : Type 0} (xs : List X) (i j : ℕ) (x : X) → i < j → slice_get xs i ≡ Some x → slice_get (take j xs) i ≡ Some x
+pub take_get : {X : Type 0} (xs : List X) (i j : ℕ) (x : X) → i < j → slice_get xs i ≡ Some x → slice_get (take j xs) i ≡ Some x
 take_get xs i zero x low at = absurd (omega (arith, low))
 take_get [] i (suc j) x low at = at
 take_get (y ∷ xs) zero (suc j) x low at = at
 take_get (y ∷ xs) (suc i) (suc j) x low at = take_get xs i j x (omega (arith, low)) at
 
-order_of : (i j : ℕ) → (i < j) ⊎ (j < i) ⊎ (i ≡ j)
+pub order_of : (i j : ℕ) → (i < j) ⊎ (j < i) ⊎ (i ≡ j)
 order_of i j = grind arith
 
 module _ (tree : Tree) (clean : (f : Found) → Finds tree f → ⊥) where

@@ -1,6 +1,7 @@
 -- The groups, cells and ports of a design by numbers of net bits, with all links.
-use Rattle.std.specs.Prelude.{◌≡◌, ℕ, true, false, List, [], ◌∷◌, map, flat_map, slice_get, Option, Some}
+use Rattle.std.specs.Prelude.{◌≡◌, ℕ, suc, ◌==◌, ◌&&◌, if◌then◌else◌, Bool, true, false, List, [], ◌∷◌, map, flat_map, slice_get, Option, Some}
 use Rattle.std.specs.Option.{option_map}
+use Rattle.std.specs.Str.{bytes_eq}
 use Rattle.net_core.specs.declared.parts.NetId.{NetId}
 use Rattle.net_core.specs.declared.parts.Pin.{Pin}
 use Rattle.net_core.specs.declared.parts.Pin.TheVariants as pins
@@ -11,7 +12,7 @@ use Rattle.flat_settle.specs.declared.raw.Raw.{Raw}
 use Rattle.vlog_parse.specs.declared.tree.Module.{Module}
 use Rattle.vlog_parse.specs.declared.tree.Range.{Range}
 use Rattle.vlog_check.specs.Scope.{numbered_from, direction_of, is_output}
-use Rattle.elab_design.specs.Design.{Bit, Source, Wire, Fixed, Design}
+use Rattle.elab_design.specs.Design.{Path, Bit, Source, Wire, Fixed, Design}
 use Rattle.elab_design.specs.DesignCells.{DesignCell}
 use Rattle.elab_design.specs.DesignRuns.{clock_bits}
 use Rattle.elab_design.specs.Order.{DesignGroup, group_bits, FlatOrder}
@@ -55,6 +56,21 @@ flat_ports top = map (flat_port top) (numbered_from 0 top.ports)
 -- each bit of the list has its place in it as its number
 abbrev pub IsPlaced : (Bit → ℕ) → List Bit → Type 0
 IsPlaced number bits = (n : ℕ) (b : Bit) → slice_get bits n ≡ Some b → number b ≡ n
+
+-- whether two bits are the same
+abbrev pub same_path : Path → Path → Bool
+same_path [] [] = true
+same_path [] (y ∷ q) = false
+same_path (x ∷ p) [] = false
+same_path (x ∷ p) (y ∷ q) = bytes_eq x y && same_path p q
+
+abbrev pub same_bit : Bit → Bit → Bool
+same_bit a b = same_path a.path b.path && bytes_eq a.name b.name && (a.index == b.index)
+
+-- the place of a bit among these, or how many there are
+abbrev pub place_among : List Bit → Bit → ℕ
+place_among [] b = 0
+place_among (a ∷ bits) b = if same_bit a b then 0 else suc (place_among bits b)
 
 -- The raw netlist is the design in flat order, where the number of each net bit is its place among those of all groups.
 pub record IsRawOf (d : Design) (raw : Raw) : Type 0 where

@@ -1,0 +1,34 @@
+ghost use Rattle.std.specs.Prelude.{◌≡◌, ◌↔◌, List, flat_map};
+ghost use Rattle.net_core.specs.Netlist.{Netlist as NetlistOf, parts_of};
+ghost use Rattle.net_core.specs.WellFormed.{IsFlat};
+ghost use Rattle.vlog_parse.specs.ReadTree.{In};
+ghost use Rattle.vlog_check.specs.Checked.{IsChecked};
+ghost use Rattle.flat_settle.specs.declared.raw.Raw.{Raw as RawOf};
+ghost use Rattle.flat_settle.specs.Refusals.{Settles};
+ghost use Rattle.elab_design.specs.Design.{Design, Bit, IsNetBit};
+ghost use Rattle.elab_design.specs.DesignCells.{DesignCell, HasCell};
+ghost use Rattle.elab_design.specs.Order.{DesignGroup, group_bits, FlatOrder};
+ghost use Rattle.elab_design.specs.Raw.{IsPlaced, IsRawOf, place_among};
+ghost use Rattle.elab_design.specs.Elaborates.{Elaborates};
+
+/// A design in flat order has exactly the cells and the net bits of the design.
+pub fn order_is_whole()
+    ensures cells { (d : Design) (groups : List DesignGroup) (cells : List DesignCell) → FlatOrder d groups cells → (c : DesignCell) → In cells c ↔ HasCell d c }
+    ensures bits { (d : Design) (groups : List DesignGroup) (cells : List DesignCell) → FlatOrder d groups cells → (b : Bit) → In (flat_map group_bits groups) b ↔ IsNetBit d b }
+{}
+
+/// A design has one flat order.
+pub fn one_order()
+    ensures { (d : Design) (groups : List DesignGroup) (others : List DesignGroup) (cells : List DesignCell) (more : List DesignCell) → FlatOrder d groups cells → FlatOrder d others more → (groups ≡ others) × (cells ≡ more) }
+{}
+
+/// All net bits of a checked design differ: the place of each among them is a number of its own.
+pub fn bits_have_numbers()
+    ensures { (d : Design) (groups : List DesignGroup) (cells : List DesignCell) → IsChecked d.tree d.top → FlatOrder d groups cells → IsPlaced (place_among (flat_map group_bits groups)) (flat_map group_bits groups) }
+{}
+
+/// What the raw netlist of a checked design is settled to is the design's flat netlist: it has the
+/// design's groups, cells and ports in flat order, and exactly its runs.
+pub fn elaborates()
+    ensures { (d : Design) (raw : RawOf) (net : NetlistOf) → IsChecked d.tree d.top → IsRawOf d raw → IsFlat net → Settles raw (parts_of net) → Elaborates d net }
+{}
