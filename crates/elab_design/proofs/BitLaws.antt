@@ -83,6 +83,14 @@ module _ (tree : Tree) (clean : (f : Found) → Finds tree f → ⊥) where
     | inr rest ↦ elim rest [ inl high ↦ absurd (twice m j i b a has high there at (sym same)) | inr equal ↦ equal ]
   ]
 
+  -- an instance of a module is told by its name
+  pub insts_one : (m : Module) → In tree.modules m → (a b : Inst) → In m.items (items.Inst a) → In m.items (items.Inst b) → a.name ≡ b.name → a ≡ b
+  unfolding InstsDiffer
+  insts_one m has a b (i, at) (j, there) same =
+      let places : i ≡ j = insts_differ m has i j a b at there same in
+      let both : items.Inst a ≡ items.Inst b = same_Some (items.Inst a) (items.Inst b) (sym at ∙ (ap (slice_get m.items) places ∙ there)) in
+      cc both
+
 insts_tail : (item : Item) (its : List Item) → InstsDiffer (item ∷ its) → InstsDiffer its
 unfolding InstsDiffer
 insts_tail item its differ i j a b at there same = let e : suc i ≡ suc j = differ (suc i) (suc j) a b at there same in omega (arith, e)

@@ -12,3 +12,6 @@ mod SettledLaws
 mod DifferLaws
 mod BitLaws
 mod OneLaws
+mod CarriedLaws
+mod CarriedRuns
+mod FlatPorts

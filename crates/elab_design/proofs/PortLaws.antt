@@ -16,9 +16,10 @@ use Rattle.vlog_parse.specs.ReadTree.{In}
 use Rattle.vlog_check.specs.Scope.{is_among, numbered_from, range_of, declared}
 use Rattle.flat_settle.specs.declared.raw.Raw.{Raw}
 use Rattle.flat_settle.specs.Raw.{with_cells}
-use Rattle.elab_design.specs.Design.{bit_of, indices, net_bits, Design, at_top}
+use Rattle.elab_design.specs.DesignCells.{DesignCell}
+use Rattle.elab_design.specs.Design.{Bit, bit_of, indices, net_bits, Design, at_top}
 use Rattle.elab_design.specs.DesignRuns.{is_input_port, top_inputs}
-use Rattle.elab_design.specs.Order.{DesignGroup, group_bits, first_mentions, net_names, net_group, own_groups}
+use Rattle.elab_design.specs.Order.{DesignGroup, group_bits, first_mentions, net_names, net_group, own_groups, FlatOrder}
 use Rattle.elab_design.specs.Raw.{net_id, flat_group, flat_port, IsRawOf}
 use Rattle.elab_design.proofs.Lists.{map_of_map}
 use Rattle.elab_design.proofs.MentionLaws.{names_same, either_way, among_more}
@@ -51,12 +52,13 @@ pub joined_map : {X Y : Type 0} (f : X → Y) (xs ys : List X) → map f xs ++ m
 joined_map f [] ys = refl
 joined_map f (x ∷ xs) ys = ap (λ zs. f x ∷ zs) (joined_map f xs ys)
 
-module _ (d : Design) (raw : Raw) (is : IsRawOf d raw) (sound : IsSoundDesign d) where
+module _ (d : Design) (design_groups : List DesignGroup) (design_cells : List DesignCell) (groups : List Group) (number : Bit → ℕ) (order : FlatOrder d design_groups design_cells)
+    (same_groups : groups ≡ map (flat_group number) design_groups) (sound : IsSoundDesign d) where
   abbrev top : Module
-  top = is.order.top
+  top = order.top
 
   top_in : In d.tree.modules top
-  top_in = leads_in d [] top (at_top top is.order.is_top)
+  top_in = leads_in d [] top (at_top top order.is_top)
 
   names_begin : (more : List (List ℕ)) × (net_names top ≡ top.ports ++ more)
   names_begin = first_ports [] top.ports (map (λ (e : List ℕ × Option Range). e.0) (declared top.items)) (λ name at. refl) (sound.ports_differ top top_in)
@@ -68,46 +70,54 @@ module _ (d : Design) (raw : Raw) (is : IsRawOf d raw) (sound : IsSoundDesign d)
 
   -- the group of a port has the port's place
   group_at : (k : ℕ) (name : List ℕ) (range : Option Range) → slice_get top.ports k ≡ Some name → range_of top name ≡ Some range
-      → slice_get is.design_groups k ≡ Some (record { path = []; name = name; range = range })
+      → slice_get design_groups k ≡ Some (record { path = []; name = name; range = range })
   group_at k name range at declares =
-      ap (λ (groups : List DesignGroup). slice_get groups k) is.order.all_groups.all
-      ∙ slice_get_left (own_groups top []) is.order.all_groups.inner k (record { path = []; name = name; range = range })
+      ap (λ (gs : List DesignGroup). slice_get gs k) order.all_groups.all
+      ∙ slice_get_left (own_groups top []) order.all_groups.inner k (record { path = []; name = name; range = range })
       (ap (λ names. slice_get (filter_map (net_group top []) names) k) names_begin.1
       ∙ filtered_at (net_group top []) top.ports names_begin.0 k name (record { path = []; name = name; range = range }) port_group at
       (ap (option_map (λ r. record { path = []; name = name; range = r })) declares))
 
-  pub nets_at : (k : ℕ) (name : List ℕ) → slice_get top.ports k ≡ Some name → port_nets raw.groups (flat_port top (name, k)) ≡ map is.number (net_bits top [] name)
+  -- the group of a port, with its name and its bits
+  pub port_is : (k : ℕ) (name : List ℕ) → slice_get top.ports k ≡ Some name → (g : DesignGroup) × (slice_get groups k ≡ Some (flat_group number g)) × (g.path ≡ []) × (g.name ≡ name)
+  port_is k name at =
+      let own = sound.ports_declared top name top_in (k, at) in
+      let g : DesignGroup = record { path = []; name = name; range = own.0 } in
+      (g, ap (λ (gs : List Group). slice_get gs k) same_groups ∙ slice_get-map (flat_group number) design_groups k ∙ ap (option_map (flat_group number)) (group_at k name own.0 at own.1), refl, refl)
+
+  pub nets_at : (k : ℕ) (name : List ℕ) → slice_get top.ports k ≡ Some name → port_nets groups (flat_port top (name, k)) ≡ map number (net_bits top [] name)
   nets_at k name at =
       let own = sound.ports_declared top name top_in (k, at) in
       let g : DesignGroup = record { path = []; name = name; range = own.0 } in
-      let there : slice_get raw.groups k ≡ Some (flat_group is.number g) =
-      ap (λ (groups : List Group). slice_get groups k) is.groups ∙ slice_get-map (flat_group is.number) is.design_groups k ∙ ap (option_map (flat_group is.number)) (group_at k name own.0 at own.1) in
+      let there : slice_get groups k ≡ Some (flat_group number g) =
+      ap (λ (gs : List Group). slice_get gs k) same_groups ∙ slice_get-map (flat_group number) design_groups k ∙ ap (option_map (flat_group number)) (group_at k name own.0 at own.1) in
       ap (λ o. option_map_or group_nets o []) there
-      ∙ map_of_map (λ (id : NetId). id.0) (λ b. net_id (is.number b)) (group_bits g)
-      ∙ ap (λ o. map is.number (option_map_or (λ range. map (bit_of [] name) (indices range)) o [])) (sym own.1)
+      ∙ map_of_map (λ (id : NetId). id.0) (λ b. net_id (number b)) (group_bits g)
+      ∙ ap (λ o. map number (option_map_or (λ range. map (bit_of [] name) (indices range)) o [])) (sym own.1)
 
   abbrev input_ports : ℕ → List (List ℕ) → List Port
   input_ports a names = filter (λ (port : Port). not port.output) (map (flat_port top) (numbered_from a names))
 
-  inputs_from : (a : ℕ) (names : List (List ℕ)) → ((k : ℕ) (name : List ℕ) → slice_get names k ≡ Some name → port_nets raw.groups (flat_port top (name, a + k)) ≡ map is.number (net_bits top [] name))
-      → flat_map (port_nets raw.groups) (input_ports a names) ≡ map is.number (flat_map (net_bits top []) (filter (is_input_port top) names))
+  pub inputs_from : (a : ℕ) (names : List (List ℕ)) → ((k : ℕ) (name : List ℕ) → slice_get names k ≡ Some name → port_nets groups (flat_port top (name, a + k)) ≡ map number (net_bits top [] name))
+      → flat_map (port_nets groups) (input_ports a names) ≡ map number (flat_map (net_bits top []) (filter (is_input_port top) names))
   inputs_from a [] each = refl
-  inputs_from a (name ∷ names) each = by (is_input_port top name) (inputs_from (a + 1) names (λ k other at. (let e : a + 1 + k ≡ a + suc k = omega arith in ap (λ n. port_nets raw.groups (flat_port top (other, n))) e ∙ each (suc k) other at)))
+  inputs_from a (name ∷ names) each = by (is_input_port top name) (inputs_from (a + 1) names (λ k other at. (let e : a + 1 + k ≡ a + suc k = omega arith in ap (λ n. port_nets groups (flat_port top (other, n))) e ∙ each (suc k) other at)))
     where
-      first : port_nets raw.groups (flat_port top (name, a)) ≡ map is.number (net_bits top [] name)
-      first = (let e : a ≡ a + 0 = omega arith in ap (λ n. port_nets raw.groups (flat_port top (name, n))) e) ∙ each 0 name refl
+      first : port_nets groups (flat_port top (name, a)) ≡ map number (net_bits top [] name)
+      first = (let e : a ≡ a + 0 = omega arith in ap (λ n. port_nets groups (flat_port top (name, n))) e) ∙ each 0 name refl
 
-      by : (b : Bool) → flat_map (port_nets raw.groups) (input_ports (a + 1) names) ≡ map is.number (flat_map (net_bits top []) (filter (is_input_port top) names))
-          → flat_map (port_nets raw.groups) (cond b (flat_port top (name, a) ∷ input_ports (a + 1) names) (input_ports (a + 1) names))
-          ≡ map is.number (flat_map (net_bits top []) (cond b (name ∷ filter (is_input_port top) names) (filter (is_input_port top) names)))
+      by : (b : Bool) → flat_map (port_nets groups) (input_ports (a + 1) names) ≡ map number (flat_map (net_bits top []) (filter (is_input_port top) names))
+          → flat_map (port_nets groups) (cond b (flat_port top (name, a) ∷ input_ports (a + 1) names) (input_ports (a + 1) names))
+          ≡ map number (flat_map (net_bits top []) (cond b (name ∷ filter (is_input_port top) names) (filter (is_input_port top) names)))
       by true later =
-          ap (λ nets. nets ++ flat_map (port_nets raw.groups) (input_ports (a + 1) names)) first ∙ ap (λ nets. map is.number (net_bits top [] name) ++ nets) later
-          ∙ joined_map is.number (net_bits top [] name) (flat_map (net_bits top []) (filter (is_input_port top) names))
+          ap (λ nets. nets ++ flat_map (port_nets groups) (input_ports (a + 1) names)) first ∙ ap (λ nets. map number (net_bits top [] name) ++ nets) later
+          ∙ joined_map number (net_bits top [] name) (flat_map (net_bits top []) (filter (is_input_port top) names))
       by false later = later
 
+module _ (d : Design) (raw : Raw) (is : IsRawOf d raw) (sound : IsSoundDesign d) where
   -- the bits of the inputs are those of the design's top
   pub inputs_are : input_bits (with_cells raw []) ≡ map is.number (top_inputs d)
   inputs_are =
       ap (λ (ports : List Port). flat_map (port_nets raw.groups) (filter (λ (port : Port). not port.output) ports)) is.ports
-      ∙ inputs_from 0 top.ports (λ k name at. (let e : 0 + k ≡ k = omega arith in ap (λ n. port_nets raw.groups (flat_port top (name, n))) e ∙ nets_at k name at))
+      ∙ inputs_from d is.design_groups is.design_cells raw.groups is.number is.order is.groups sound 0 is.order.top.ports (λ k name at. (let e : 0 + k ≡ k = omega arith in ap (λ n. port_nets raw.groups (flat_port is.order.top (name, n))) e ∙ nets_at d is.design_groups is.design_cells raw.groups is.number is.order is.groups sound k name at))
       ∙ ap (λ o. map is.number (option_map_or (λ (m : Module). flat_map (net_bits m []) (filter (is_input_port m) m.ports)) o [])) (sym is.order.is_top)

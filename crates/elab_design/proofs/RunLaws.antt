@@ -37,21 +37,21 @@ pub record Flattens (d : Design) (net : Netlist) (number : Bit → ℕ) (known :
 
 -- A cell of a design has a name, or it is a gate, which stores nothing
 
-named_or_gate : (d : Design) (c : DesignCell) → HasCell d c → ((name : List ℕ) × (c.name ≡ Some name)) ⊎ ((code : GateCode) × (c.kind ≡ Gate code))
+pub named_or_gate : (d : Design) (c : DesignCell) → HasCell d c → ((name : List ℕ) × (c.name ≡ Some name)) ⊎ ((code : GateCode) × (c.kind ≡ Gate code))
 named_or_gate d c (gate path m g leads at) = inr (gate_code g.kind, refl)
 named_or_gate d c (leaf path m inst cell leads at is) = inl (inst.name, refl)
 named_or_gate d c (assigned path m to from k s b leads at source own) = inr (_, refl)
 named_or_gate d c (goes_in path m n inst at port e k s b leads has is there way to source own) = inr (_, refl)
 named_or_gate d c (goes_out path m n inst at port e k a b leads has is there way to source own) = inr (_, refl)
 
-gate_stores : (kind : CellKind) (code : GateCode) (i : ℕ) → kind ≡ Gate code → i < content_size kind → ⊥
+pub gate_stores : (kind : CellKind) (code : GateCode) (i : ℕ) → kind ≡ Gate code → i < content_size kind → ⊥
 gate_stores kind code i is low = let small : i < content_size (Gate code) = subst (λ (o : CellKind). i < content_size o) is low in omega (arith, small)
 
 gate_output_same : (kind : CellKind) (code : GateCode) (ins : List Bool) (one other : ℕ → Bool) (k : ℕ) → kind ≡ Gate code → output kind ins one k ≡ output kind ins other k
 gate_output_same kind code ins one other k is = ap (λ (o : CellKind). output o ins one k) is ∙ sym (ap (λ (o : CellKind). output o ins other k) is)
 
 -- what stores bits is no link, so it is kept
-stored_kept : (d : Design) (c : DesignCell) (i : ℕ) → HasCell d c → i < content_size c.kind → IsKept d c
+pub stored_kept : (d : Design) (c : DesignCell) (i : ℕ) → HasCell d c → i < content_size c.kind → IsKept d c
 stored_kept d c i (gate path m g leads at) low = absurd (omega (arith, low))
 stored_kept d c i (leaf path m inst cell leads at is) low = λ a link. absurd (true≢false (sym link))
 stored_kept d c i (assigned path m to from k s b leads at source own) low = absurd (omega (arith, low))

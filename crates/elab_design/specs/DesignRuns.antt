@@ -1,12 +1,12 @@
 -- Which histories of a design are runs: equations between net bits, and rules of stored bits. There is no list of cells here, and no order.
-use Rattle.std.specs.Prelude.{◌≡◌, ℕ, ◌+◌, ◌<◌, Bool, true, false, not, ◌&&◌, List, [], map, flat_map, filter, length, slice_get, Option, Some, None}
+use Rattle.std.specs.Prelude.{◌≡◌, ℕ, ◌+◌, ◌<◌, ◌≤◌, Bool, true, false, not, ◌&&◌, List, [], map, flat_map, filter, length, slice_get, Option, Some, None}
 use Rattle.std.specs.Option.{option_map_or}
 use Rattle.std.specs.Str.{bytes_eq}
 use Rattle.net_core.specs.CellTable.{output, content_size, initial, next_content, is_clock_buffer}
 use Rattle.vlog_parse.specs.declared.tree.Module.{Module}
 use Rattle.vlog_parse.specs.ReadTree.{In}
 use Rattle.vlog_check.specs.Scope.{module_of, direction_of, is_output}
-use Rattle.elab_design.specs.Design.{Path, Bit, Source, Wire, Fixed, net_bits, Design}
+use Rattle.elab_design.specs.Design.{Path, Bit, Source, Wire, Fixed, net_bits, Design, IsNetBit}
 use Rattle.elab_design.specs.DesignCells.{DesignCell, link, HasCell}
 
 -- the bits of the top's ports that are picked, in the order of its header
@@ -89,3 +89,13 @@ pub record IsDesignRun (d : Design) (rows : List (List Bool)) (h : DesignHistory
   pub start : IsDesignStart d (h.content 0)
   pub settled : (t : ℕ) (row : List Bool) → slice_get rows t ≡ Some row → IsDesignSettled d row (h.bit t) (h.content t)
   pub next : (t : ℕ) → t < length rows → IsDesignNext d (h.bit t) (h.content t) (h.content (t + 1))
+
+-- the two give the same bits at so many clocks, and the same stored bits at the one after them too
+pub record SameDesignHistory (d : Design) (clocks : ℕ) (one other : DesignHistory) : Type 0 where
+  pub bits : (t : ℕ) (b : Bit) → t < clocks → IsNetBit d b → IsDataBit d b → one.bit t b ≡ other.bit t b
+  pub contents : (t : ℕ) (c : DesignCell) (i : ℕ) → t ≤ clocks → HasCell d c → i < content_size c.kind → content_in (one.content t) c i ≡ content_in (other.content t) c i
+
+-- exactly one run: the history is one, and each other is the same
+pub record IsOneDesignRun (d : Design) (rows : List (List Bool)) (h : DesignHistory) : Type 0 where
+  pub run : IsDesignRun d rows h
+  pub only : (other : DesignHistory) → IsDesignRun d rows other → SameDesignHistory d (length rows) other h

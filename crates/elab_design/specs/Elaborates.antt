@@ -2,9 +2,11 @@
 use Rattle.std.specs.Prelude.{◌≡◌, ◌↔◌, ℕ, Bool, true, List, [], ◌∷◌, map, flat_map, filter_map, slice_get, Option, Some, None, option_and_then, MatchOption}
 use Rattle.net_core.specs.declared.parts.NetId.{NetId}
 use Rattle.net_core.specs.declared.parts.Cell.{Cell}
-use Rattle.net_core.specs.Netlist.{Netlist, is_driven, is_clock}
+use Rattle.net_core.specs.declared.parts.Group.{Group}
+use Rattle.net_core.specs.Netlist.{Netlist, numbers, is_driven, is_clock}
 use Rattle.net_core.specs.Run.{History, IsRun}
-use Rattle.elab_design.specs.Design.{Bit, Source, Wire, Fixed, Design}
+use Rattle.vlog_parse.specs.declared.tree.Module.{Module}
+use Rattle.elab_design.specs.Design.{Bit, Source, Wire, Fixed, net_bits, Design}
 use Rattle.elab_design.specs.DesignCells.{DesignCell}
 use Rattle.elab_design.specs.DesignRuns.{clock_bits, Driven, InClock, IsKept, DesignHistory, IsDesignRun}
 use Rattle.elab_design.specs.Order.{DesignGroup, group_bits, FlatOrder}
@@ -54,3 +56,10 @@ pub record Elaborates (d : Design) (net : Netlist) : Type 0 where
   pub driven : (n : ℕ) (b : Bit) → slice_get (flat_map group_bits design_groups) n ≡ Some b → (is_driven net n ≡ true) ↔ Driven d b
   pub clocked : (n : ℕ) (b : Bit) → slice_get (flat_map group_bits design_groups) n ≡ Some b → (is_clock net n ≡ true) ↔ InClock d b
   pub runs : (h : DesignHistory) (g : History) → Carries d net h g → (rows : List (List Bool)) → IsDesignRun d rows h ↔ IsRun net rows g
+
+-- a port of the top by its place in the header: its group has its name, and the numbers of its bits
+pub record HasFlatPort (net : Netlist) (number : Bit → ℕ) (top : Module) (k : ℕ) (name : List ℕ) : Type 0 where
+  pub group : Group
+  pub at : slice_get net.groups k ≡ Some group
+  pub named : group.name ≡ name
+  pub bits : numbers group.bits ≡ map number (net_bits top [] name)

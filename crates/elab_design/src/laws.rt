@@ -1,15 +1,19 @@
-ghost use Rattle.std.specs.Prelude.{◌≡◌, ◌↔◌, List, flat_map};
-ghost use Rattle.net_core.specs.Netlist.{Netlist as NetlistOf, parts_of};
+ghost use Rattle.std.specs.Prelude.{◌≡◌, ◌↔◌, ℕ, Bool, true, List, [], flat_map, slice_get, Some};
+ghost use Rattle.std.specs.Str.{bytes_eq};
+ghost use Rattle.net_core.specs.Netlist.{Netlist as NetlistOf, parts_of, is_clock};
+ghost use Rattle.net_core.specs.Run.{History, IsOneRun};
 ghost use Rattle.net_core.specs.WellFormed.{IsFlat};
 ghost use Rattle.vlog_parse.specs.ReadTree.{In};
 ghost use Rattle.vlog_check.specs.Checked.{IsChecked};
 ghost use Rattle.flat_settle.specs.declared.raw.Raw.{Raw as RawOf};
 ghost use Rattle.flat_settle.specs.Refusals.{Settles};
-ghost use Rattle.elab_design.specs.Design.{Design, Bit, IsNetBit};
+ghost use Rattle.elab_design.specs.Design.{Design, Bit, IsNetBit, net_bits};
+ghost use Rattle.elab_design.specs.DesignRuns.{DesignHistory, IsOneDesignRun, is_input_port};
+ghost use Rattle.elab_design.specs.Names.{Carries};
 ghost use Rattle.elab_design.specs.DesignCells.{DesignCell, HasCell};
 ghost use Rattle.elab_design.specs.Order.{DesignGroup, group_bits, FlatOrder};
 ghost use Rattle.elab_design.specs.Raw.{IsPlaced, IsRawOf, place_among};
-ghost use Rattle.elab_design.specs.Elaborates.{Elaborates};
+ghost use Rattle.elab_design.specs.Elaborates.{Elaborates, HasFlatPort};
 
 /// A design in flat order has exactly the cells and the net bits of the design.
 pub fn order_is_whole()
@@ -31,4 +35,23 @@ pub fn bits_have_numbers()
 /// design's groups, cells and ports in flat order, and exactly its runs.
 pub fn elaborates()
     ensures { (d : Design) (raw : RawOf) (net : NetlistOf) → IsChecked d.tree d.top → IsRawOf d raw → IsFlat net → Settles raw (parts_of net) → Elaborates d net }
+{}
+
+/// The one run of the flat netlist of a checked design is carried back to the one run of the design.
+pub fn one_run_carried()
+    ensures { (d : Design) (net : NetlistOf) → IsChecked d.tree d.top → IsFlat net → Elaborates d net → (rows : List (List Bool)) (g : History) → IsOneRun net rows g → (h : DesignHistory) × Carries d net h g × IsOneDesignRun d rows h }
+{}
+
+/// Each net bit of a checked design has the bit of the net with its number in the flat netlist, where a
+/// history is carried by flat names.
+pub fn bits_carried()
+    ensures { (d : Design) (net : NetlistOf) (own : Elaborates d net) (h : DesignHistory) (g : History) → Carries d net h g → (t : ℕ) (b : Bit) → IsNetBit d b → g.bit t (own.number b) ≡ h.bit t b }
+{}
+
+/// The ports of the top of a checked design are those of its flat netlist, and of the bits of its inputs
+/// those of the clock port alone carry the clock.
+pub fn ports_of_flat()
+    ensures ports { (d : Design) (net : NetlistOf) (own : Elaborates d net) → IsChecked d.tree d.top → IsFlat net → (k : ℕ) (name : List ℕ) → slice_get own.order.top.ports k ≡ Some name → HasFlatPort net own.number own.order.top k name }
+    ensures clock { (d : Design) (net : NetlistOf) (own : Elaborates d net) → IsChecked d.tree d.top → IsFlat net → (k : ℕ) (name : List ℕ) (b : Bit) → slice_get own.order.top.ports k ≡ Some name → is_input_port own.order.top name ≡ true → In (net_bits own.order.top [] name) b
+        → is_clock net (own.number b) ≡ bytes_eq name d.clock }
 {}

@@ -4,4 +4,7 @@
 
 mod laws;
 
-pub use laws::{bits_have_numbers, elaborates, one_order, order_is_whole};
+pub use laws::{
+    bits_carried, bits_have_numbers, elaborates, one_order, one_run_carried, order_is_whole,
+    ports_of_flat,
+};

@@ -16,4 +16,5 @@ mod state;
 mod steps;
 mod whole;
 
+pub use plan::read_directions;
 pub use whole::unfold;

@@ -18,8 +18,8 @@ use std::alloc::Global;
 use vlog_check::Table;
 use vlog_parse::{Dir, Item, Module};
 
-// The direction of each name that has one, that of its first declaration by a direction.
-fn read_directions<'a>(alloc: Global, m: &'a Module) -> Result<Table<'a, Dir>, NoMemory>
+/// The direction of each name of a module that has one, that of its first declaration by a direction.
+pub fn read_directions<'a>(alloc: Global, m: &'a Module) -> Result<Table<'a, Dir>, NoMemory>
     ensures { IfOk result (λ directions. (name : List ℕ) → look.value_of directions name ≡ look.direction_of m.now name) }
 {
     let mut directions = Table::new(alloc);
