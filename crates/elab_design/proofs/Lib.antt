@@ -12,3 +12,9 @@ mod SettledLaws
 mod DifferLaws
 mod BitLaws
 mod OneLaws
+mod WidthLaws
+mod CheckLaws
+mod GateLaws
+mod TableLaws
+mod LeafLaws
+mod UnfoldedLaws

@@ -67,7 +67,7 @@ module _ (d : Design) (raw : Raw) (is : IsRawOf d raw) (sound : IsSoundDesign d)
       (record { path = []; name = name; range = own.0 }, ap (option_map (λ range. record { path = []; name = name; range = range })) own.1)
 
   -- the group of a port has the port's place
-  group_at : (k : ℕ) (name : List ℕ) (range : Option Range) → slice_get top.ports k ≡ Some name → range_of top name ≡ Some range
+  pub group_at : (k : ℕ) (name : List ℕ) (range : Option Range) → slice_get top.ports k ≡ Some name → range_of top name ≡ Some range
       → slice_get is.design_groups k ≡ Some (record { path = []; name = name; range = range })
   group_at k name range at declares =
       ap (λ (groups : List DesignGroup). slice_get groups k) is.order.all_groups.all

@@ -1,14 +1,16 @@
 ghost use Rattle.std.specs.Prelude.{◌≡◌, ◌↔◌, List, flat_map};
 ghost use Rattle.net_core.specs.Netlist.{Netlist as NetlistOf, parts_of};
 ghost use Rattle.net_core.specs.WellFormed.{IsFlat};
-ghost use Rattle.vlog_parse.specs.ReadTree.{In};
+ghost use Rattle.vlog_parse.specs.ReadTree.{In, IsReadTree};
 ghost use Rattle.vlog_check.specs.Checked.{IsChecked};
 ghost use Rattle.flat_settle.specs.declared.raw.Raw.{Raw as RawOf};
+ghost use Rattle.flat_settle.specs.Raw.{IsUnfolded};
 ghost use Rattle.flat_settle.specs.Refusals.{Settles};
 ghost use Rattle.elab_design.specs.Design.{Design, Bit, IsNetBit};
 ghost use Rattle.elab_design.specs.DesignCells.{DesignCell, HasCell};
 ghost use Rattle.elab_design.specs.Order.{DesignGroup, group_bits, FlatOrder};
 ghost use Rattle.elab_design.specs.Raw.{IsPlaced, IsRawOf, place_among};
+ghost use Rattle.elab_design.specs.Limits.{HasClock, HasLimits};
 ghost use Rattle.elab_design.specs.Elaborates.{Elaborates};
 
 /// A design in flat order has exactly the cells and the net bits of the design.
@@ -25,6 +27,12 @@ pub fn one_order()
 /// All net bits of a checked design differ: the place of each among them is a number of its own.
 pub fn bits_have_numbers()
     ensures { (d : Design) (groups : List DesignGroup) (cells : List DesignCell) → IsChecked d.tree d.top → FlatOrder d groups cells → IsPlaced (place_among (flat_map group_bits groups)) (flat_map group_bits groups) }
+{}
+
+/// The raw netlist of a checked design is what settling asks for, where the clock is a one-bit input
+/// of the top and the design's counts are within their limits.
+pub fn raw_is_unfolded()
+    ensures { (d : Design) (raw : RawOf) → IsReadTree d.tree → IsChecked d.tree d.top → HasClock d → HasLimits d → IsRawOf d raw → IsUnfolded raw }
 {}
 
 /// What the raw netlist of a checked design is settled to is the design's flat netlist: it has the

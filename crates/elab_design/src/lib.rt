@@ -4,4 +4,4 @@
 
 mod laws;
 
-pub use laws::{bits_have_numbers, elaborates, one_order, order_is_whole};
+pub use laws::{bits_have_numbers, elaborates, one_order, order_is_whole, raw_is_unfolded};
