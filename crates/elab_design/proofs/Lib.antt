@@ -18,3 +18,5 @@ mod GateLaws
 mod TableLaws
 mod LeafLaws
 mod UnfoldedLaws
+mod ExistLaws
+mod CountLaws

@@ -52,7 +52,7 @@ placed_range f a (x ∷ xs) each =
     let first : f x ≡ a = omega (arith, each 0 x refl) in
     ap (λ n. n ∷ map f xs) first ∙ ap (λ ns. a ∷ ns) (placed_range f (a + 1) xs (λ n y at. (let e : f y ≡ a + suc n = each (suc n) y at in omega (arith, e))))
 
-there_is : {X : Type 0} (xs : List X) (k : ℕ) → k < length xs → (x : X) × (slice_get xs k ≡ Some x)
+pub there_is : {X : Type 0} (xs : List X) (k : ℕ) → k < length xs → (x : X) × (slice_get xs k ≡ Some x)
 there_is [] k low = absurd (omega (arith, low))
 there_is (x ∷ xs) zero low = (x, refl)
 there_is (x ∷ xs) (suc k) low = there_is xs k (omega (arith, low))

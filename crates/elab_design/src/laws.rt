@@ -1,4 +1,5 @@
-ghost use Rattle.std.specs.Prelude.{◌≡◌, ◌↔◌, List, flat_map};
+ghost use Rattle.std.specs.Prelude.{◌≡◌, ◌↔◌, ℕ, List, flat_map};
+ghost use Rattle.ila_base.specs.declared.refusal.LimitKind.{LimitKind as LimitKindOf};
 ghost use Rattle.net_core.specs.Netlist.{Netlist as NetlistOf, parts_of};
 ghost use Rattle.net_core.specs.WellFormed.{IsFlat};
 ghost use Rattle.vlog_parse.specs.ReadTree.{In, IsReadTree};
@@ -10,7 +11,7 @@ ghost use Rattle.elab_design.specs.Design.{Design, Bit, IsNetBit};
 ghost use Rattle.elab_design.specs.DesignCells.{DesignCell, HasCell};
 ghost use Rattle.elab_design.specs.Order.{DesignGroup, group_bits, FlatOrder};
 ghost use Rattle.elab_design.specs.Raw.{IsPlaced, IsRawOf, place_among};
-ghost use Rattle.elab_design.specs.Limits.{HasClock, HasLimits};
+ghost use Rattle.elab_design.specs.Limits.{Counts, HasClock, HasLimits, IsDeepest};
 ghost use Rattle.elab_design.specs.Elaborates.{Elaborates};
 
 /// A design in flat order has exactly the cells and the net bits of the design.
@@ -22,6 +23,14 @@ pub fn order_is_whole()
 /// A design has one flat order.
 pub fn one_order()
     ensures { (d : Design) (groups : List DesignGroup) (others : List DesignGroup) (cells : List DesignCell) (more : List DesignCell) → FlatOrder d groups cells → FlatOrder d others more → (groups ≡ others) × (cells ≡ more) }
+{}
+
+/// A checked design has a flat order, so that it has a count of each kind, and a depth; and there is
+/// no other count of any kind.
+pub fn has_counts()
+    ensures order { (d : Design) → IsChecked d.tree d.top → (groups : List DesignGroup) × (cells : List DesignCell) × FlatOrder d groups cells }
+    ensures deepest { (d : Design) → IsChecked d.tree d.top → (n : ℕ) × IsDeepest d n }
+    ensures one { (d : Design) (kind : LimitKindOf) (m : ℕ) (n : ℕ) → Counts d kind m → Counts d kind n → m ≡ n }
 {}
 
 /// All net bits of a checked design differ: the place of each among them is a number of its own.

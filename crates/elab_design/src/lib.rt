@@ -4,4 +4,6 @@
 
 mod laws;
 
-pub use laws::{bits_have_numbers, elaborates, one_order, order_is_whole, raw_is_unfolded};
+pub use laws::{
+    bits_have_numbers, elaborates, has_counts, one_order, order_is_whole, raw_is_unfolded,
+};
