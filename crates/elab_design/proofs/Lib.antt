@@ -20,3 +20,4 @@ mod LeafLaws
 mod UnfoldedLaws
 mod ExistLaws
 mod CountLaws
+mod OneFlatLaws

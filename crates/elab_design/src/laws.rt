@@ -49,3 +49,8 @@ pub fn raw_is_unfolded()
 pub fn elaborates()
     ensures { (d : Design) (raw : RawOf) (net : NetlistOf) → IsChecked d.tree d.top → IsRawOf d raw → IsFlat net → Settles raw (parts_of net) → Elaborates d net }
 {}
+
+/// A checked design has at most one flat netlist: no other order and no other numbers of net bits.
+pub fn one_flat()
+    ensures { (d : Design) (net : NetlistOf) (other : NetlistOf) → IsChecked d.tree d.top → Elaborates d net → Elaborates d other → parts_of net ≡ parts_of other }
+{}
