@@ -55,7 +55,7 @@ pub nets_same : (a b : ℕ) → pins.Net (net_id a) ≡ pins.Net (net_id b) → 
 unfolding pin_net
 nets_same a b e = ap pin_net e
 
-wire_pin : (number : Bit → ℕ) (s : Source) (n : ℕ) → pin number s ≡ pins.Net (net_id n) → (b : Bit) × (s ≡ Wire b) × (number b ≡ n)
+pub wire_pin : (number : Bit → ℕ) (s : Source) (n : ℕ) → pin number s ≡ pins.Net (net_id n) → (b : Bit) × (s ≡ Wire b) × (number b ≡ n)
 wire_pin number (Wire b) n is = (b, refl, nets_same (number b) n is)
 wire_pin number (Fixed true) n is = absurd (cc is)
 wire_pin number (Fixed false) n is = absurd (cc is)
@@ -104,7 +104,7 @@ module _ (d : Design) (raw : Raw) (is : IsRawOf d raw) (sound : IsSoundDesign d)
   cell_at : (k : ℕ) (c : DesignCell) → slice_get is.design_cells k ≡ Some c → slice_get raw.cells k ≡ Some (raw_cell is.number c)
   cell_at k c at = ap (λ (cells : List RawCell). slice_get cells k) is.cells ∙ slice_get-map (raw_cell is.number) is.design_cells k ∙ ap (option_map (raw_cell is.number)) at
 
-  behind : (k : ℕ) (cell : RawCell) → slice_get raw.cells k ≡ Some cell → (c : DesignCell) × (slice_get is.design_cells k ≡ Some c) × (raw_cell is.number c ≡ cell)
+  pub behind : (k : ℕ) (cell : RawCell) → slice_get raw.cells k ≡ Some cell → (c : DesignCell) × (slice_get is.design_cells k ≡ Some c) × (raw_cell is.number c ≡ cell)
   behind k cell at =
       option_map_some (raw_cell is.number) (slice_get is.design_cells k) cell (sym (slice_get-map (raw_cell is.number) is.design_cells k) ∙ sym (ap (λ (cells : List RawCell). slice_get cells k) is.cells) ∙ at)
 
@@ -117,7 +117,7 @@ module _ (d : Design) (raw : Raw) (is : IsRawOf d raw) (sound : IsSoundDesign d)
       let bit = option_map_some (λ b. net_id (is.number b)) out.0 (net_id n) out.2 in
       (bit.0, (j, out.1 ∙ ap (λ (o : Option Bit). Some o) bit.1), ap (λ (id : NetId). id.0) bit.2)
 
-  at_in : (c : DesignCell) (i n : ℕ) → slice_get ((raw_cell is.number c).ins) i ≡ Some (pins.Net (net_id n)) → (b : Bit) × (slice_get c.ins i ≡ Some (Wire b)) × (is.number b ≡ n)
+  pub at_in : (c : DesignCell) (i n : ℕ) → slice_get ((raw_cell is.number c).ins) i ≡ Some (pins.Net (net_id n)) → (b : Bit) × (slice_get c.ins i ≡ Some (Wire b)) × (is.number b ≡ n)
   at_in c i n at =
       let s = option_map_some (pin is.number) (slice_get c.ins i) (pins.Net (net_id n)) (sym (slice_get-map (pin is.number) c.ins i) ∙ at) in
       let b = wire_pin is.number s.0 n s.2 in
@@ -140,7 +140,7 @@ module _ (d : Design) (raw : Raw) (is : IsRawOf d raw) (sound : IsSoundDesign d)
     pub numbered : is.number to ≡ n
     pub knows : In bits to
 
-  driver : (k j n : ℕ) (cell : RawCell) → RawDrives raw.cells k cell j n → IsBehind k j n cell
+  pub driver : (k j n : ℕ) (cell : RawCell) → RawDrives raw.cells k cell j n → IsBehind k j n cell
   driver k j n cell drives =
       let c = behind k cell drives.at in
       let b = at_out c.0 j n (ap (λ (o : RawCell). slice_get o.outs j) c.2 ∙ drives.on) in
@@ -161,7 +161,7 @@ module _ (d : Design) (raw : Raw) (is : IsRawOf d raw) (sound : IsSoundDesign d)
       raws.from_driven at.0 (raw_cell is.number (link path (Wire a) b)) 0 (is.number a) (is.number b) (drives_at at.0 0 (link path (Wire a) b) b at.1 refl) refl
       (reads_at at.0 0 (link path (Wire a) b) a at.1 refl) (driven_to a own)
 
-  clock_to : (b : Bit) → In (clock_bits d) b → raw.clock.0 ≡ is.number b
+  pub clock_to : (b : Bit) → In (clock_bits d) b → raw.clock.0 ≡ is.number b
   clock_to b at = in_one raw.clock.0 (is.number b) (subst (λ (nets : List ℕ). In nets (is.number b)) is.clock (in_map is.number (clock_bits d) b at))
 
   pub clocked_to : (b : Bit) → InClock d b → IsClocked raw (is.number b)

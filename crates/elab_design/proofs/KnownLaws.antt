@@ -1,6 +1,6 @@
 -- All bits that a sound design reads and drives are bits of its nets.
-use Rattle.std.proofs.Common.{◌≡◌, ℕ, zero, suc, ◌-◌, ◌<◌, ◌≤◌, Bool, true, false, cond, if◌then◌else◌, ◌&&◌, ◌||◌, nat_le, List, [], ◌∷◌, map, take, drop, length, replicate, Option, Some, None, ◌⊎◌, inl, inr, refl, ap, sym, ◌∙◌, subst, arith, true≢false}
-use Rattle.std.specs.List.{list_all, flat_map, filter}
+use Rattle.std.proofs.Common.{◌≡◌, ℕ, zero, suc, ◌-◌, ◌<◌, ◌≤◌, Bool, true, false, cond, if◌then◌else◌, ◌&&◌, ◌||◌, nat_le, List, [], ◌∷◌, map, take, drop, length, replicate, Option, Some, None, ◌⊎◌, inl, inr, refl, ap, sym, ◌∙◌, subst, arith, true≢false, slice_get}
+use Rattle.std.specs.List.{list_all, flat_map, filter, find}
 use Rattle.std.specs.Option.{option_map_or}
 use Rattle.std.specs.Str.{bytes_eq}
 use Rattle.std.proofs.lemmas.Bool.Decides.{nat_tests}
@@ -23,7 +23,7 @@ use Rattle.vlog_check.specs.Cells.{PinRow, pins}
 use Rattle.vlog_check.specs.CellRows.{is_data_input, is_data_output, bits_with}
 use Rattle.vlog_check.specs.Scope.{value_of, is_declared, has_index, has_part, is_sound, connected, range_of, module_of}
 use Rattle.elab_design.specs.Design.{Path, Bit, Source, Wire, Fixed, bit_of, wire, indices, net_bits, word_bits, leaf_sources, sources, Design, Leads, at_top, into, IsNetBit}
-use Rattle.elab_design.specs.DesignCells.{DesignCell, target, is_last_input, gate_ins, gate_outs, terminals_of, pin_expr, pin_sources, pin_targets, HasCell, gate, leaf, assigned, goes_in, goes_out}
+use Rattle.elab_design.specs.DesignCells.{DesignCell, target, is_last_input, gate_ins, gate_outs, terminals_of, pin_expr, pin_sources, pin_targets, is_clock_pin, HasCell, gate, leaf, assigned, goes_in, goes_out}
 use Rattle.elab_design.specs.DesignRuns.{port_bits}
 use Rattle.elab_design.proofs.Lists.{in_none, in_one, in_map, map_in, flat_map_in, in_filter_map}
 use Rattle.elab_design.proofs.SoundLaws.{IsSoundDesign, leads_in, and_then_some}
@@ -256,6 +256,15 @@ module _ (d : Design) where
         net_bit_known n (inst.name ∷ path) name b (into path m n inst leads has is) (k, drives ∙ ap (λ x. Some x) (only_out t b at))
     drives_known _ b (goes_out path m n inst port name e k a t leads has is there way to reads drives) at =
         expr_known m path (items.Inst inst) e b leads has (connected_in inst.conns port name e to) (k, drives ∙ ap (λ x. Some (Wire x)) (only_out t b at))
+
+    pub clock_known : (c : DesignCell) (b : Bit) → HasCell d c → c.clock ≡ Some (Wire b) → IsNetBit d b
+    clock_known _ b (gate path m g leads has) at = absurd (cc at)
+    clock_known _ b (leaf path m inst cell leads has is) at =
+        let row = and_then_some (λ row. slice_get (pin_sources m path inst row) 0) (find is_clock_pin (pins cell)) (Wire b) at in
+        pin_known m path inst row.0 b leads has (0, row.2)
+    clock_known _ b (assigned path m to from k s t leads has reads drives) at = absurd (cc at)
+    clock_known _ b (goes_in path m n inst port name e k s t leads has is there way to reads drives) at = absurd (cc at)
+    clock_known _ b (goes_out path m n inst port name e k a t leads has is there way to reads drives) at = absurd (cc at)
 
   -- the bits of the top's ports
   pub port_known : (picks : Module → List ℕ → Bool) (b : Bit) → In (port_bits d picks) b → IsNetBit d b

@@ -15,3 +15,12 @@ mod OneLaws
 mod CarriedLaws
 mod CarriedRuns
 mod FlatPorts
+mod WidthLaws
+mod CheckLaws
+mod GateLaws
+mod TableLaws
+mod LeafLaws
+mod UnfoldedLaws
+mod ExistLaws
+mod CountLaws
+mod OneFlatLaws

@@ -69,9 +69,9 @@ module _ (d : Design) (design_groups : List DesignGroup) (design_cells : List De
       (record { path = []; name = name; range = own.0 }, ap (option_map (λ range. record { path = []; name = name; range = range })) own.1)
 
   -- the group of a port has the port's place
-  group_at : (k : ℕ) (name : List ℕ) (range : Option Range) → slice_get top.ports k ≡ Some name → range_of top name ≡ Some range
+  group_placed : (k : ℕ) (name : List ℕ) (range : Option Range) → slice_get top.ports k ≡ Some name → range_of top name ≡ Some range
       → slice_get design_groups k ≡ Some (record { path = []; name = name; range = range })
-  group_at k name range at declares =
+  group_placed k name range at declares =
       ap (λ (gs : List DesignGroup). slice_get gs k) order.all_groups.all
       ∙ slice_get_left (own_groups top []) order.all_groups.inner k (record { path = []; name = name; range = range })
       (ap (λ names. slice_get (filter_map (net_group top []) names) k) names_begin.1
@@ -83,14 +83,14 @@ module _ (d : Design) (design_groups : List DesignGroup) (design_cells : List De
   port_is k name at =
       let own = sound.ports_declared top name top_in (k, at) in
       let g : DesignGroup = record { path = []; name = name; range = own.0 } in
-      (g, ap (λ (gs : List Group). slice_get gs k) same_groups ∙ slice_get-map (flat_group number) design_groups k ∙ ap (option_map (flat_group number)) (group_at k name own.0 at own.1), refl, refl)
+      (g, ap (λ (gs : List Group). slice_get gs k) same_groups ∙ slice_get-map (flat_group number) design_groups k ∙ ap (option_map (flat_group number)) (group_placed k name own.0 at own.1), refl, refl)
 
   pub nets_at : (k : ℕ) (name : List ℕ) → slice_get top.ports k ≡ Some name → port_nets groups (flat_port top (name, k)) ≡ map number (net_bits top [] name)
   nets_at k name at =
       let own = sound.ports_declared top name top_in (k, at) in
       let g : DesignGroup = record { path = []; name = name; range = own.0 } in
       let there : slice_get groups k ≡ Some (flat_group number g) =
-      ap (λ (gs : List Group). slice_get gs k) same_groups ∙ slice_get-map (flat_group number) design_groups k ∙ ap (option_map (flat_group number)) (group_at k name own.0 at own.1) in
+      ap (λ (gs : List Group). slice_get gs k) same_groups ∙ slice_get-map (flat_group number) design_groups k ∙ ap (option_map (flat_group number)) (group_placed k name own.0 at own.1) in
       ap (λ o. option_map_or group_nets o []) there
       ∙ map_of_map (λ (id : NetId). id.0) (λ b. net_id (number b)) (group_bits g)
       ∙ ap (λ o. map number (option_map_or (λ range. map (bit_of [] name) (indices range)) o [])) (sym own.1)
@@ -115,6 +115,10 @@ module _ (d : Design) (design_groups : List DesignGroup) (design_cells : List De
       by false later = later
 
 module _ (d : Design) (raw : Raw) (is : IsRawOf d raw) (sound : IsSoundDesign d) where
+  pub group_at : (k : ℕ) (name : List ℕ) (range : Option Range) → slice_get is.order.top.ports k ≡ Some name → range_of is.order.top name ≡ Some range
+      → slice_get is.design_groups k ≡ Some (record { path = []; name = name; range = range })
+  group_at k name range at declares = group_placed d is.design_groups is.design_cells raw.groups is.number is.order is.groups sound k name range at declares
+
   -- the bits of the inputs are those of the design's top
   pub inputs_are : input_bits (with_cells raw []) ≡ map is.number (top_inputs d)
   inputs_are =
