@@ -22,4 +22,4 @@ mod whole;
 mod width;
 
 pub use checked::{Checked, check};
-pub use laws::rows_agree;
+pub use laws::{one_finding, one_refusal, rows_agree};
