@@ -1,5 +1,5 @@
 -- Why a design of which nothing is found is refused.
-use Rattle.std.proofs.Common.{◌≡◌, ℕ, ◌<◌, ◌≤◌, List, length, slice_get, get_or, Option, Some, None, ap, sym, subst, ◌∙◌}
+use Rattle.std.proofs.Common.{◌≡◌, ℕ, ◌<◌, List, length, slice_get, get_or, Some, None, ap, sym, subst}
 use Rattle.std.proofs.lemmas.Option.{slice_get_within, slice_get-get_or}
 use Rattle.ila_base.specs.declared.refusal.NetRefusal.TheVariants.{Recursion}
 use Rattle.vlog_lex.specs.declared.token.NetFault.{NetFault}
@@ -8,7 +8,7 @@ use Rattle.vlog_parse.specs.declared.tree.Module.{Module}
 use Rattle.vlog_check.specs.declared.found.Found.{Found}
 use Rattle.vlog_check.specs.Found.{IsLeastFinding}
 use Rattle.vlog_check.specs.Scope.{module_number}
-use Rattle.vlog_check.specs.Checked.{Finds, IsBelow, child, deeper, IsRecursive, IsRefused, found, recursion}
+use Rattle.vlog_check.specs.Checked.{Finds, IsBelow, child, deeper, IsRefused, found, recursion}
 use Rattle.vlog_check.specs.Contained.{IsFirstInside}
 
 below_low : (tree : Tree) (a b : ℕ) → IsBelow tree a b → a < length tree.modules

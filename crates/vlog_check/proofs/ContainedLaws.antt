@@ -1,15 +1,14 @@
 -- The graph of the modules in one another, row by row, and what leads to what in it.
-use Rattle.std.proofs.Common.{◌≡◌, ℕ, zero, suc, ◌+◌, ◌-◌, ◌<◌, ◌≤◌, ◌^◌, Bool, true, false, List, [], ◌∷◌, ◌++◌, length, filter_map, slice_get, slice_index, get_or, is_some, take, append_assoc, if◌then◌else◌, Option, Some, None, refl, ap, sym, subst, ◌∙◌, arith, ◌⊎◌, ⊎_elim, inl, inr, ◌↔◌}
+use Rattle.std.proofs.Common.{◌≡◌, ℕ, zero, suc, ◌+◌, ◌<◌, ◌≤◌, Bool, true, false, List, [], ◌∷◌, ◌++◌, length, filter_map, slice_get, slice_index, is_some, take, append_assoc, if◌then◌else◌, Option, Some, None, refl, ap, sym, subst, ◌∙◌, arith, ◌⊎◌, ⊎_elim, inl, inr}
 use Rattle.std.specs.List.{cons_option}
 use Rattle.std.specs.Str.{bytes_eq}
-use Rattle.std.proofs.lemmas.Bool.{cases_eq, cases_lt}
+use Rattle.std.proofs.lemmas.Bool.{cases_lt}
 use Rattle.std.proofs.lemmas.List.Elements.{filter_map-append}
 use Rattle.std.proofs.lemmas.List.{take_more, append-nil, length-append, length-map, get_or_append_left, get_or-append-add, get_or_past}
-use Rattle.std.proofs.lemmas.Option.{same_Some, none-some, slice_get_within, slice_get-get_or, get_or_from_slice_get}
+use Rattle.std.proofs.lemmas.Option.{same_Some, none-some, slice_get_within, get_or_from_slice_get}
 use Rattle.net_graph.specs.declared.graph.Graph.{Graph}
-use Rattle.net_graph.specs.Graph.{Leads}
 use Rattle.net_graph.specs.Rows.{RowHas, AreRows}
-use Rattle.net_graph.specs.Recurrent.{LeadsFar, one, more, LeadsTo, IsRecurrent, IsLeastRecurrent}
+use Rattle.net_graph.specs.Recurrent.{LeadsFar, one, more, IsRecurrent, IsLeastRecurrent}
 use Rattle.vlog_parse.specs.declared.tree.Tree.{Tree}
 use Rattle.vlog_parse.specs.declared.tree.Module.{Module}
 use Rattle.vlog_parse.specs.declared.tree.Item.{Item}

@@ -11,3 +11,6 @@ pub mod FewLaws
 pub mod DesignLaws
 pub mod ContainedLaws
 pub mod CheckedLaws
+pub mod ToldLaws
+pub mod TellingLaws
+pub mod OneLaws

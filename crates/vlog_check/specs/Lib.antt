@@ -11,3 +11,4 @@ pub mod Given
 pub mod Design
 pub mod CellRows
 pub mod Contained
+pub mod Places

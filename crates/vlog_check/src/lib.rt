@@ -23,6 +23,6 @@ mod width;
 
 pub use checked::{Checked, check};
 pub use expr::range_width;
-pub use laws::rows_agree;
+pub use laws::{one_finding, one_refusal, rows_agree};
 pub use primitive::{CellPin, Primitive, Size, cell_of, pins};
 pub use table::Table;

@@ -1,4 +1,4 @@
-use Rattle.std.proofs.Common.{◌≡◌, slice_get, Some, sym, subst, refl, ap, ◌∙◌}
+use Rattle.std.proofs.Common.{◌≡◌, slice_get, Some, sym, refl, ap, ◌∙◌}
 use Rattle.vlog_check.proofs.LeastLaws.{at_index}
 use Rattle.vlog_check.proofs.ContainedLaws.{pushed_none, pushed_some}
 use Rattle.vlog_check.proofs.contained.add_inner.Goals as goal

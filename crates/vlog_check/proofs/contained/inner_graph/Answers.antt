@@ -1,7 +1,7 @@
-use Rattle.std.proofs.Common.{◌≡◌, ◌+◌, ◌++◌, ◌∷◌, [], slice_get, length, filter_map, Some, sym, subst, refl, ap, ◌∙◌, arith}
+use Rattle.std.proofs.Common.{◌≡◌, ◌+◌, ◌++◌, ◌∷◌, [], length, filter_map, sym, subst, ap, ◌∙◌, arith}
 use Rattle.vlog_check.specs.Contained.{inner_number, AreInner}
 use Rattle.vlog_check.proofs.LeastLaws.{at_index}
-use Rattle.vlog_check.proofs.ContainedLaws.{inner_start, inner_more, inner_rows, inner_graph}
+use Rattle.vlog_check.proofs.ContainedLaws.{inner_more, inner_graph}
 use Rattle.vlog_check.proofs.contained.inner_graph.Goals as goal
 
 pub loop-m-preserved : goal.loop-m-preserved
