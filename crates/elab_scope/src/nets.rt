@@ -1,7 +1,7 @@
 ghost use Rattle.std.specs.Prelude.{◌≡◌, ℕ, List, [], ◌∷◌, ◌++◌, IfOk, OnOk};
 ghost use Rattle.vlog_parse.specs.declared.tree.Module.{Module as ModuleOf};
 ghost use Rattle.vlog_check.specs.Scope.{value_of, range_of};
-ghost use Rattle.elab_count.specs.Nets.{AreNets, IsMentioned, declared_names};
+ghost use Rattle.elab_scope.specs.Nets.{AreNets, IsMentioned, declared_names};
 
 use ila_base::NoMemory;
 use std::alloc::Global;

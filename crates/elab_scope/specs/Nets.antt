@@ -1,13 +1,13 @@
 -- The nets of a module with their ranges, in order of first mention.
-use Rattle.std.specs.Prelude.{◌≡◌, ℕ, ◌++◌, List, map, filter_map, is_some, Option}
+use Rattle.std.specs.Prelude.{◌≡◌, ℕ, ◌++◌, List, [], map, filter_map, is_some, Option}
 use Rattle.std.specs.Option.{option_map}
 use Rattle.vlog_parse.specs.declared.tree.Module.{Module}
 use Rattle.vlog_parse.specs.declared.tree.Item.{Item}
 use Rattle.vlog_parse.specs.declared.tree.Range.{Range}
 use Rattle.vlog_check.specs.Scope.{value_of, is_among, range_of, declared}
 use Rattle.elab_design.specs.Order.{first_mentions, net_names}
-use Rattle.elab_count.specs.declared.nets.Nets.{Nets}
-use Rattle.elab_count.specs.declared.nets.Reading.{Reading}
+use Rattle.elab_scope.specs.declared.nets.Nets.{Nets}
+use Rattle.elab_scope.specs.declared.nets.Reading.{Reading}
 
 -- a name with the range of its net, where it is declared
 abbrev pub net_named : Module → List ℕ → Option (List ℕ × Option Range)
