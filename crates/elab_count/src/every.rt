@@ -1,17 +1,11 @@
-use crate::amounts::Count;
+use elab_scope::Counts;
 use crate::graph::instance_graph;
 use crate::items::count_module;
-use crate::numbers::read_modules;
+use elab_scope::read_modules;
 use ila_base::NoMemory;
 use net_graph::{Graph, Order, ranks, reaching};
 use std::alloc::Global;
 use vlog_parse::Tree;
-
-/// What the modules of a tree count, by their numbers: the top and those below it.
-#[derive(Drop)]
-pub struct Counts {
-    pub table: Vec<Option<Count>>,
-}
 
 // The modules in an order in which each stands behind those that it has instances of.
 fn sorted(alloc: Global, graph: &Graph) -> Result<Vec<(u32, u32)>, NoMemory> {

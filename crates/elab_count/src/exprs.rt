@@ -1,4 +1,4 @@
-use crate::nets::Nets;
+use elab_scope::Nets;
 use vlog_check::range_width;
 use vlog_parse::{Conns, Expr, Range};
 

@@ -1,4 +1,4 @@
-use crate::numbers::{Modules, Part, part_of};
+use elab_scope::{Modules, Part, part_of};
 use ila_base::NoMemory;
 use net_graph::Graph;
 use std::alloc::Global;

@@ -1,7 +1,7 @@
-use crate::amounts::{Count, MOST};
+use elab_scope::{Count, MOST};
 use crate::exprs::{width_of, width_of_conns};
-use crate::nets::{Nets, read_nets};
-use crate::numbers::{Modules, Part, part_of};
+use elab_scope::{Nets, read_nets};
+use elab_scope::{Modules, Part, part_of};
 use ila_base::{Name, NoMemory};
 use std::alloc::Global;
 use vlog_check::{Primitive, Size, pins, range_width};

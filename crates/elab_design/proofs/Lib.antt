@@ -1,10 +1,10 @@
-mod Lists
-mod RunLaws
-mod OrderLaws
-mod MentionLaws
-mod GroupLaws
-mod SoundLaws
-mod KnownLaws
+pub mod Lists
+pub mod RunLaws
+pub mod OrderLaws
+pub mod MentionLaws
+pub mod GroupLaws
+pub mod SoundLaws
+pub mod KnownLaws
 mod PortLaws
 mod DrivenLaws
 mod NameLaws

@@ -20,7 +20,7 @@ use Rattle.elab_design.specs.Design.{Path, Bit, bit_of, indices}
 use Rattle.elab_design.specs.DesignCells.{is_last_input}
 use Rattle.elab_design.specs.Raw.{net_id, pair_of}
 use Rattle.elab_design.specs.Names.{flat_name}
-use Rattle.elab_count.specs.Nets.{named_nets}
+use Rattle.elab_scope.specs.Nets.{named_nets}
 use Rattle.elab_unfold.specs.declared.places.Net.{Net}
 use Rattle.elab_unfold.specs.declared.places.Places.{Places}
 

@@ -14,8 +14,8 @@ use Rattle.vlog_check.specs.Scope.{kind_of, OfCell, OfModule, direction_of, is_o
 use Rattle.elab_design.specs.Design.{Path, Design}
 use Rattle.elab_design.specs.DesignCells.{DesignCell, parameter, init_of}
 use Rattle.elab_design.specs.Order.{DesignGroup, InnerGroups, Unfolds}
-use Rattle.elab_count.specs.Nets.{named_nets}
-use Rattle.elab_count.specs.Counting.{IsPart}
+use Rattle.elab_scope.specs.Nets.{named_nets}
+use Rattle.elab_scope.specs.Counting.{IsPart}
 use Rattle.elab_unfold.specs.declared.places.Net.{Net}
 use Rattle.elab_unfold.specs.declared.shape.Own.{Own}
 use Rattle.elab_unfold.specs.declared.shape.Own.TheVariants as owns

@@ -11,7 +11,7 @@ use Rattle.vlog_parse.specs.ReadTree.{In}
 use Rattle.elab_design.specs.Design.{Path, Design, bit_of, Leads}
 use Rattle.elab_design.specs.Order.{FlatOrder}
 use Rattle.elab_design.specs.Raw.{net_id}
-use Rattle.elab_count.specs.declared.amounts.Count.{Count}
+use Rattle.elab_scope.specs.declared.amounts.Count.{Count}
 use Rattle.elab_unfold.specs.declared.places.Net.{Net}
 use Rattle.elab_unfold.specs.declared.shape.PortNet.{PortNet}
 use Rattle.elab_unfold.specs.declared.shape.Plan.{Plan}

@@ -1,5 +1,5 @@
 ghost use Rattle.std.specs.Prelude.{◌≡◌, ◌<◌, ◌^◌, map, IfOk};
-ghost use Rattle.elab_count.specs.Nets.{named_nets};
+ghost use Rattle.elab_scope.specs.Nets.{named_nets};
 ghost use Rattle.elab_unfold.specs.Places.{ArePlaces, rows_width};
 
 use ila_base::NoMemory;

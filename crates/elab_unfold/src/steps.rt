@@ -1,11 +1,11 @@
 ghost use Rattle.std.specs.Prelude.{◌≡◌, false, IfOk, MatchOption};
-ghost use Rattle.elab_count.specs.Counting.{count_at};
-ghost use Rattle.elab_count.specs.Modules.{AreNumbered};
+ghost use Rattle.elab_scope.specs.Counting.{count_at};
+ghost use Rattle.elab_scope.specs.Modules.{AreNumbered};
 ghost use Rattle.vlog_parse.specs.declared.tree.Item.TheVariants as items;
 ghost use Rattle.elab_unfold.specs.Steps.{has_some, is_live, IsStepOf, AreSteps};
 
 use crate::shape::{Own, Step};
-use elab_count::{Count, Modules, Part, part_of};
+use elab_scope::{Count, Modules, Part, part_of};
 use ila_base::NoMemory;
 use std::alloc::Global;
 use vlog_parse::{Inst, Item, Module};

@@ -1,7 +1,7 @@
 ghost use Rattle.std.specs.Prelude.{◌≡◌, ◌<◌, ◌≤◌, ◌^◌, length, Some, IfOk};
 ghost use Rattle.vlog_check.specs.Checked.{IsChecked};
 ghost use Rattle.vlog_check.specs.Scope.{module_number};
-ghost use Rattle.elab_count.specs.Counting.{AreCounts, count_at};
+ghost use Rattle.elab_scope.specs.Counting.{AreCounts, count_at};
 ghost use Rattle.elab_design.specs.Limits.{HasClock};
 ghost use Rattle.elab_design.specs.Raw.{IsRawOf};
 ghost use Rattle.elab_unfold.specs.Shapes.{IsPlan, shape_size, design_of};
@@ -11,7 +11,7 @@ use crate::deep::push_module;
 use crate::plan::read_shapes;
 use crate::shape::{Plan, PortNet};
 use crate::state::State;
-use elab_count::{Counts, read_modules};
+use elab_scope::{Counts, read_modules};
 use flat_settle::Raw;
 use ila_base::{Items, NoMemory};
 use net_core::{NetId, Port};

@@ -1,5 +1,6 @@
 use crate::raw_text::raw_text;
-use elab_count::{Count, count_all};
+use elab_count::count_all;
+use elab_scope::Count;
 use elab_unfold::unfold;
 use std::alloc::Global;
 use std::test::Fail;

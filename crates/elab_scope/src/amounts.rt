@@ -1,7 +1,7 @@
 ghost use Rattle.std.specs.Prelude.{◌≡◌, ℕ, ◌+◌, ◌*◌, ◌<◌, ◌^◌};
 ghost use Rattle.elab_design.specs.Limits.{carried};
-ghost use Rattle.elab_count.specs.Counting as counting;
-ghost use Rattle.elab_count.specs.declared.amounts.Count.{Count as CountOf};
+ghost use Rattle.elab_scope.specs.Counting as counting;
+ghost use Rattle.elab_scope.specs.declared.amounts.Count.{Count as CountOf};
 
 /// Above this no count is told apart from it.
 pub const MOST: u64 = 1_000_000_000_000;
@@ -100,4 +100,10 @@ impl Count {
             ..self
         }
     }
+}
+
+/// What the modules of a tree count, by their numbers: the top and those below it.
+#[derive(Drop)]
+pub struct Counts {
+    pub table: Vec<Option<Count>>,
 }

@@ -17,10 +17,10 @@ use Rattle.vlog_check.specs.Checked.{IsBelow}
 use Rattle.vlog_check.specs.Scope.{value_of, range_width, width_of, module_number, cell_of}
 use Rattle.elab_design.specs.DesignCells.{parameter}
 use Rattle.elab_design.specs.Limits.{carried}
-use Rattle.elab_count.specs.declared.amounts.Count.{Count}
-use Rattle.elab_count.specs.declared.numbers.Part.{Part}
-use Rattle.elab_count.specs.declared.numbers.Part.TheVariants as parts
-use Rattle.elab_count.specs.Nets.{named_nets}
+use Rattle.elab_scope.specs.declared.amounts.Count.{Count}
+use Rattle.elab_scope.specs.declared.numbers.Part.{Part}
+use Rattle.elab_scope.specs.declared.numbers.Part.TheVariants as parts
+use Rattle.elab_scope.specs.Nets.{named_nets}
 
 -- Counts, which in themselves have no bound
 

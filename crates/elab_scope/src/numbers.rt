@@ -1,6 +1,6 @@
 ghost use Rattle.std.specs.Prelude.{◌≡◌, IfOk};
-ghost use Rattle.elab_count.specs.Counting as counting;
-ghost use Rattle.elab_count.specs.Modules.{AreNumbered};
+ghost use Rattle.elab_scope.specs.Counting as counting;
+ghost use Rattle.elab_scope.specs.Modules.{AreNumbered};
 
 use ila_base::NoMemory;
 use std::alloc::Global;

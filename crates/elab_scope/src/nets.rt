@@ -1,7 +1,8 @@
 ghost use Rattle.std.specs.Prelude.{◌≡◌, ℕ, List, [], ◌∷◌, ◌++◌, IfOk, OnOk};
 ghost use Rattle.vlog_parse.specs.declared.tree.Module.{Module as ModuleOf};
-ghost use Rattle.vlog_check.specs.Scope.{value_of, range_of};
-ghost use Rattle.elab_count.specs.Nets.{AreNets, IsMentioned, declared_names};
+ghost use Rattle.vlog_parse.specs.declared.tree.Item.{Item as ItemOf};
+ghost use Rattle.vlog_check.specs.Scope.{value_of, range_of, declared};
+ghost use Rattle.elab_scope.specs.Nets.{AreNets, IsMentioned, declared_names};
 
 use ila_base::NoMemory;
 use std::alloc::Global;
@@ -25,15 +26,28 @@ pub struct Reading<'a> {
     order: Vec<(&'a [u8], Option<Range>)>,
 }
 
+// Says which range an item declares behind others.
+fn add_range<'a>(ranges: &mut Table<'a, Option<Range>>, item: &'a Item) -> Result<(), NoMemory>
+    ensures { OnOk result ((given : List ItemOf) → ((name : List ℕ) → value_of ranges.old name ≡ value_of (declared given) name) → (name : List ℕ) → value_of ranges.new name ≡ value_of (declared (given ++ item.now ∷ [])) name) }
+{
+    match item {
+        Item::Net(d) => {
+            ranges.put(d.name.bytes(), d.range)?;
+            Ok(())
+        }
+        Item::Assign(_, _) => Ok(()),
+        Item::Gate(_) => Ok(()),
+        Item::Inst(_) => Ok(()),
+    }
+}
+
 // The range of each declared name, that of its first declaration.
 fn read_ranges<'a>(alloc: Global, m: &'a Module) -> Result<Table<'a, Option<Range>>, NoMemory>
     ensures { IfOk result (λ ranges. (name : List ℕ) → value_of ranges name ≡ range_of m.now name) }
 {
     let mut ranges = Table::new(alloc);
     for item in m.items.as_slice() {
-        if let Item::Net(d) = item {
-            ranges.put(d.name.bytes(), d.range)?;
-        }
+        add_range(&mut ranges, item)?;
     }
     Ok(ranges)
 }
@@ -55,6 +69,21 @@ impl<'a> Reading<'a> {
             }
         }
     }
+
+    // Mentions the name that an item declares behind others.
+    fn mention_in(&mut self, item: &'a Item) -> Result<(), NoMemory>
+        ensures { OnOk result ((m : ModuleOf) (names : List (List ℕ)) → IsMentioned m names self.old → IsMentioned m (names ++ declared_names (item.now ∷ [])) self.new) }
+    {
+        match item {
+            Item::Net(d) => {
+                self.mention(d.name.bytes())?;
+                Ok(())
+            }
+            Item::Assign(_, _) => Ok(()),
+        Item::Gate(_) => Ok(()),
+        Item::Inst(_) => Ok(()),
+        }
+    }
 }
 
 fn mention_header<'a>(reading: &mut Reading<'a>, m: &'a Module) -> Result<(), NoMemory>
@@ -70,9 +99,7 @@ fn mention_declared<'a>(reading: &mut Reading<'a>, m: &'a Module) -> Result<(), 
     ensures { OnOk result (IsMentioned m.now m.now.ports reading.old → IsMentioned m.now (m.now.ports ++ declared_names m.now.items) reading.new) }
 {
     for item in m.items.as_slice() {
-        if let Item::Net(d) = item {
-            reading.mention(d.name.bytes())?;
-        }
+        reading.mention_in(item)?;
     }
     Ok(())
 }
