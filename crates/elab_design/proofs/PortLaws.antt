@@ -119,6 +119,9 @@ module _ (d : Design) (raw : Raw) (is : IsRawOf d raw) (sound : IsSoundDesign d)
       → slice_get is.design_groups k ≡ Some (record { path = []; name = name; range = range })
   group_at k name range at declares = group_placed d is.design_groups is.design_cells raw.groups is.number is.order is.groups sound k name range at declares
 
+  pub raw_nets_at : (k : ℕ) (name : List ℕ) → slice_get is.order.top.ports k ≡ Some name → port_nets raw.groups (flat_port is.order.top (name, k)) ≡ map is.number (net_bits is.order.top [] name)
+  raw_nets_at k name at = nets_at d is.design_groups is.design_cells raw.groups is.number is.order is.groups sound k name at
+
   -- the bits of the inputs are those of the design's top
   pub inputs_are : input_bits (with_cells raw []) ≡ map is.number (top_inputs d)
   inputs_are =

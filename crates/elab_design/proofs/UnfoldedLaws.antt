@@ -38,7 +38,7 @@ use Rattle.elab_design.proofs.MentionLaws.{names_same, same_names}
 use Rattle.elab_design.proofs.GroupLaws.{IsNetGroup, group_is}
 use Rattle.elab_design.proofs.SoundLaws.{IsSoundDesign, sound_design, leads_in}
 use Rattle.elab_design.proofs.KnownLaws.{clock_known}
-use Rattle.elab_design.proofs.PortLaws.{joined_map, group_at, nets_at}
+use Rattle.elab_design.proofs.PortLaws.{joined_map, group_at, raw_nets_at}
 use Rattle.elab_design.proofs.DrivenLaws.{known, is_cell, cell_reads, behind, driver, at_in, clock_to}
 use Rattle.elab_design.proofs.WidthLaws.{net_length}
 use Rattle.elab_design.proofs.GateLaws.{gate_row, link_row}
@@ -314,7 +314,7 @@ module _ (d : Design) (raw : Raw) (is : IsRawOf d raw) (read : IsReadTree d.tree
       at = ap (λ (ports : List Port). slice_get ports clock_at.0) is.ports ∙ slice_get-map (flat_port is.order.top) (numbered_from 0 is.order.top.ports) clock_at.0
           ∙ ap (option_map (flat_port is.order.top)) (numbered_at is.order.top.ports clock_at.0 d.clock clock_at.1);
       input = ap (λ (m : Module). is_output (direction_of m d.clock)) (sym same_top) ∙ ap is_output clock.input;
-      bit = nets_at d raw is sound clock_at.0 d.clock clock_at.1 ∙ clock_number (net_bits is.order.top [] d.clock) clock_length in_clock;
+      bit = raw_nets_at d raw is sound clock_at.0 d.clock clock_at.1 ∙ clock_number (net_bits is.order.top [] d.clock) clock_length in_clock;
     }
 
     pub is_unfolded : HasLimits d → IsUnfolded raw
