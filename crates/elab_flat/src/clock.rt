@@ -7,7 +7,7 @@ ghost use Rattle.vlog_parse.specs.ReadTree.{In};
 ghost use Rattle.vlog_check.specs.Scope as look;
 ghost use Rattle.elab_flat.specs.Above.{IsClockIn};
 
-use elab_count::read_nets;
+use elab_scope::read_nets;
 use elab_unfold::read_directions;
 use ila_base::NoMemory;
 use std::alloc::Global;

@@ -2,5 +2,8 @@
 #![tactic(auto)]
 
 mod clock;
+mod flatten_design;
 mod limits;
 
+
+pub use flatten_design::flatten;

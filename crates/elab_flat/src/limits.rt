@@ -4,7 +4,7 @@ ghost use Rattle.std.specs.Prelude.{◌≡◌};
 ghost use Rattle.elab_design.specs.Limits.{greatest};
 ghost use Rattle.elab_flat.specs.Above.{IsFirstAbove};
 
-use elab_count::Count;
+use elab_scope::Count;
 use ila_base::LimitKind;
 
 /// A number that is above the limit of its kind.
