@@ -1,23 +1,23 @@
-mod Lists
+pub mod Lists
 mod RunLaws
 mod OrderLaws
-mod MentionLaws
+pub mod MentionLaws
 mod GroupLaws
-mod SoundLaws
-mod KnownLaws
+pub mod SoundLaws
+pub mod KnownLaws
 mod PortLaws
 mod DrivenLaws
 mod NameLaws
 mod SettledLaws
 mod DifferLaws
 mod BitLaws
-mod OneLaws
-mod WidthLaws
-mod CheckLaws
+pub mod OneLaws
+pub mod WidthLaws
+pub mod CheckLaws
 mod GateLaws
 mod TableLaws
-mod LeafLaws
+pub mod LeafLaws
 mod UnfoldedLaws
-mod ExistLaws
+pub mod ExistLaws
 mod CountLaws
 mod OneFlatLaws
