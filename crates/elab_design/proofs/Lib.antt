@@ -1,23 +1,23 @@
 pub mod Lists
-mod RunLaws
-mod OrderLaws
+pub mod RunLaws
+pub mod OrderLaws
 pub mod MentionLaws
-mod GroupLaws
+pub mod GroupLaws
 pub mod SoundLaws
 pub mod KnownLaws
-mod PortLaws
-mod DrivenLaws
-mod NameLaws
-mod SettledLaws
-mod DifferLaws
-mod BitLaws
+pub mod PortLaws
+pub mod DrivenLaws
+pub mod NameLaws
+pub mod SettledLaws
+pub mod DifferLaws
+pub mod BitLaws
 pub mod OneLaws
 pub mod WidthLaws
 pub mod CheckLaws
-mod GateLaws
-mod TableLaws
+pub mod GateLaws
+pub mod TableLaws
 pub mod LeafLaws
-mod UnfoldedLaws
+pub mod UnfoldedLaws
 pub mod ExistLaws
-mod CountLaws
-mod OneFlatLaws
+pub mod CountLaws
+pub mod OneFlatLaws
