@@ -53,12 +53,12 @@ number_low a (x ∷ names) name k is = by (bytes_eq name x) (number_low (a + 1) 
     by true rest is = let e : a ≡ k = same_Some a k is in (omega (arith, e), omega (arith, e))
     by false rest is = let low = rest is in (omega (arith, low.0), omega (arith, low.1))
 
-module_there : (tree : Tree) (name : List ℕ) (k : ℕ) → module_number tree name ≡ Some k → (m : Module) × (slice_get tree.modules k ≡ Some m)
+pub module_there : (tree : Tree) (name : List ℕ) (k : ℕ) → module_number tree name ≡ Some k → (m : Module) × (slice_get tree.modules k ≡ Some m)
 module_there tree name k is =
     let low = number_low 0 (module_names tree.modules) name k is in
     there_is tree.modules k (omega (arith, low.1, length-map tree.modules (λ (m : Module). m.name)))
 
-below_more : (tree : Tree) (a b c : ℕ) → IsBelow tree a b → Contains tree b c → IsBelow tree a c
+pub below_more : (tree : Tree) (a b c : ℕ) → IsBelow tree a b → Contains tree b c → IsBelow tree a c
 below_more tree a b c (child _ _ holds) more = deeper a b c holds (child b c more)
 below_more tree a b c (deeper _ e _ holds rest) more = deeper a e c holds (below_more tree e b c rest more)
 
@@ -266,13 +266,13 @@ module _ (d : Design) where
       way_behind n (inst.name ∷ path) ((other.name ∷ path) ∷ inner) paths (inst_way n path inst more paths rest (k, at) is)
 
   module _ (checked : IsChecked d.tree d.top) where
-    abbrev its_top : HasTop
+    abbrev pub its_top : HasTop
     its_top = has_top checked
 
-    abbrev all_paths : List Path
+    abbrev pub all_paths : List Path
     all_paths = [] ∷ its_top.whole_top.paths
 
-    way_at : (path : Path) (m : Module) → Leads d path m → HasWay m path all_paths
+    pub way_at : (path : Path) (m : Module) → Leads d path m → HasWay m path all_paths
     way_at _ m (at_top _ is) = subst (λ (x : Module). HasWay x [] all_paths) (same_Some its_top.top m (sym its_top.is_top ∙ is)) (record {
       inner = its_top.whole_top.paths;
       ways_in = its_top.whole_top.ways;
@@ -284,7 +284,7 @@ module _ (d : Design) where
         let own_way = inst_way n path inst m.items above.inner above.ways_in has is in
         record { inner = own_way.inner; ways_in = own_way.ways_in; here = above.inner_in (inst.name ∷ path) own_way.here; inner_in = λ q at. above.inner_in q (own_way.inner_in q at) }
 
-    path_leads : (q : Path) → In all_paths q → (x : Module) × Leads d q x
+    pub path_leads : (q : Path) → In all_paths q → (x : Module) × Leads d q x
     path_leads q (zero, at) = (its_top.top, subst (λ (p : Path). Leads d p its_top.top) (same_Some [] q at) (at_top its_top.top its_top.is_top))
     path_leads q (suc k, at) = ways_lead [] its_top.top.items its_top.whole_top.paths its_top.whole_top.ways its_top.top (at_top its_top.top its_top.is_top) (λ x there. there) q (k, at)
 

@@ -47,12 +47,12 @@ use Rattle.elab_design.proofs.CheckLaws.{unless_found, not_both, not_false, widt
 use Rattle.elab_design.proofs.GateLaws.{some_target}
 use Rattle.elab_design.proofs.TableLaws.{AreOnce, is_plain, same_row, IsSameRow, found_in, pin_found, plain_or_memory, plain_output, clock_row, plain_bits, one_bit, value_in, only_value, amount_is, address_amount, data_amount, parameter_is, allowed}
 
-or_none : (a b : Bool) → (a || b) ≡ false → (a ≡ false) × (b ≡ false)
+pub or_none : (a b : Bool) → (a || b) ≡ false → (a ≡ false) × (b ≡ false)
 or_none true b is = absurd (true≢false is)
 or_none false b is = (refl, is)
 
 -- a name that is given has an entry
-entry_in : (given : List (List ℕ × Option Expr)) (pin : List ℕ) (o : Option Expr) → value_of given pin ≡ Some o → (j : ℕ) × (c : List ℕ × Option Expr) × (slice_get given j ≡ Some c) × (pin ≡ c.0) × (c.1 ≡ o)
+pub entry_in : (given : List (List ℕ × Option Expr)) (pin : List ℕ) (o : Option Expr) → value_of given pin ≡ Some o → (j : ℕ) × (c : List ℕ × Option Expr) × (slice_get given j ≡ Some c) × (pin ≡ c.0) × (c.1 ≡ o)
 entry_in [] pin o is = absurd (cc is)
 entry_in (c ∷ given) pin o is = by (entry_in given pin o) (bytes_eq pin c.0) refl is
   where
@@ -212,7 +212,7 @@ module _ (tree : Tree) (clean : (f : Found) → Finds tree f → ⊥) (m : Modul
         let own = filter_some is_data_input (pins cell) i row there in
         input_length own.0 row own.1 (and_both (is_in row.way) (not (bytes_eq row.name (codes "C"))) own.2).0
 
-    ins_length : length (flat_map (pin_sources m path inst) (filter is_data_input (pins cell))) ≡ sum_by (bits_with aw dw) (filter is_data_input (pins cell))
+    pub ins_length : length (flat_map (pin_sources m path inst) (filter is_data_input (pins cell))) ≡ sum_by (bits_with aw dw) (filter is_data_input (pins cell))
     ins_length = joined_length (pin_sources m path inst) (bits_with aw dw) (filter is_data_input (pins cell)) data_input
 
     -- an output is open or has its width, and then all its bits are nets
@@ -275,7 +275,7 @@ module _ (tree : Tree) (clean : (f : Found) → Finds tree f → ⊥) (m : Modul
             subst (AreWhole (map (bits_with aw dw) rows)) (sym (ap (drop (bits_with aw dw row)) all ∙ cut.1)) (whole_outs rows (λ r k. each r (suc k.0, k.1))),
           )
 
-      outs_length : length (out_nets number (flat_map (pin_targets m path inst) (filter is_data_output (pins cell)))) ≡ sum_by (bits_with aw dw) (filter is_data_output (pins cell))
+      pub outs_length : length (out_nets number (flat_map (pin_targets m path inst) (filter is_data_output (pins cell)))) ≡ sum_by (bits_with aw dw) (filter is_data_output (pins cell))
       unfolding IsOutput
       outs_length =
           length-map (flat_map (pin_targets m path inst) (filter is_data_output (pins cell))) _
@@ -283,7 +283,7 @@ module _ (tree : Tree) (clean : (f : Found) → Finds tree f → ⊥) (m : Modul
 
       -- The clock
 
-      clock_there : (o : Option PinRow) → find is_clock_pin (pins cell) ≡ o → is_some (option_map (pin number) (option_and_then (λ row. slice_get (pin_sources m path inst row) 0) o)) ≡ is_some o
+      pub clock_there : (o : Option PinRow) → find is_clock_pin (pins cell) ≡ o → is_some (option_map (pin number) (option_and_then (λ row. slice_get (pin_sources m path inst row) 0) o)) ≡ is_some o
       clock_there None found = refl
       clock_there (Some row) found =
           let place = found_in is_clock_pin (pins cell) row found in

@@ -5,22 +5,22 @@ pub mod MentionLaws
 pub mod GroupLaws
 pub mod SoundLaws
 pub mod KnownLaws
-mod PortLaws
-mod DrivenLaws
-mod NameLaws
-mod SettledLaws
-mod DifferLaws
-mod BitLaws
-mod OneLaws
+pub mod PortLaws
+pub mod DrivenLaws
+pub mod NameLaws
+pub mod SettledLaws
+pub mod DifferLaws
+pub mod BitLaws
+pub mod OneLaws
 mod CarriedLaws
 mod CarriedRuns
 mod FlatPorts
-mod WidthLaws
-mod CheckLaws
-mod GateLaws
-mod TableLaws
-mod LeafLaws
-mod UnfoldedLaws
-mod ExistLaws
-mod CountLaws
-mod OneFlatLaws
+pub mod WidthLaws
+pub mod CheckLaws
+pub mod GateLaws
+pub mod TableLaws
+pub mod LeafLaws
+pub mod UnfoldedLaws
+pub mod ExistLaws
+pub mod CountLaws
+pub mod OneFlatLaws
