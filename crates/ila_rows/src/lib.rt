@@ -9,6 +9,8 @@ mod marked;
 #[cfg(test)]
 mod prefixes;
 #[cfg(test)]
+mod raw_text;
+#[cfg(test)]
 mod rows;
 #[cfg(test)]
 mod shown;
@@ -22,3 +24,5 @@ mod texts;
 mod tree_text;
 #[cfg(test)]
 mod trees;
+#[cfg(test)]
+mod unfolded;

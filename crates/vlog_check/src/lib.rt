@@ -19,4 +19,7 @@ mod table;
 mod whole;
 mod width;
 
+pub use expr::range_width;
 pub use laws::rows_agree;
+pub use primitive::{CellPin, Primitive, Size, cell_of, pins};
+pub use table::Table;
