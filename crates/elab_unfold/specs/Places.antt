@@ -1,5 +1,5 @@
 -- Where the bits of a module's nets stand among all of them, and which numbers of net bits agree with that.
-use Rattle.std.specs.Prelude.{◌≡◌, ℕ, ◌+◌, ◌-◌, take, drop, length, Bool, true, false, List, [], ◌∷◌, ◌++◌, map, sum_by, slice_get, Option, Some, None, if◌then◌else◌}
+use Rattle.std.specs.Prelude.{◌≡◌, ℕ, ◌+◌, ◌-◌, take, drop, length, Bool, true, false, List, [], ◌∷◌, ◌++◌, map, slice_get, Option, Some, None, if◌then◌else◌}
 use Rattle.std.specs.List.{range_with_len}
 use Rattle.std.specs.Option.{option_map}
 use Rattle.std.specs.Str.{bytes_eq}
@@ -32,7 +32,8 @@ row_width net = range_width net.1
 
 -- how many bits these nets have
 abbrev pub rows_width : List NetRow → ℕ
-rows_width nets = sum_by row_width nets
+rows_width [] = 0
+rows_width (net ∷ nets) = row_width net + rows_width nets
 
 -- the range of the first net of a name, and how many bits those before it have, and some more
 abbrev pub net_from : ℕ → List NetRow → List ℕ → Option Net

@@ -1,5 +1,5 @@
 -- What is kept of the modules of a checked hierarchy while they are unfolded.
-use Rattle.std.specs.Prelude.{◌≡◌, ℕ, ◌+◌, ◌<◌, ◌^◌, Bool, true, false, is_some, List, [], ◌∷◌, map, filter, sum_by, slice_get, codes, Option, Some}
+use Rattle.std.specs.Prelude.{◌≡◌, ℕ, ◌+◌, ◌<◌, ◌^◌, Bool, true, false, is_some, List, [], ◌∷◌, map, filter, slice_get, codes, Option, Some}
 use Rattle.std.specs.Option.{option_map_or}
 use Rattle.vlog_parse.specs.declared.tree.Tree.{Tree}
 use Rattle.vlog_parse.specs.declared.tree.Module.{Module}
@@ -85,6 +85,10 @@ abbrev pub step_size : Plan → Step → ℕ
 step_size plan (steps.Own own) = 0
 step_size plan (steps.Inside number inst) = shape_size plan number
 
+abbrev pub steps_size : Plan → List Step → ℕ
+steps_size plan [] = 0
+steps_size plan (step ∷ more) = step_size plan step + steps_size plan more
+
 abbrev pub design_of : Plan → Design
 design_of plan = record { tree = plan.tree.now; top = plan.name.now; clock = plan.clock.now }
 
@@ -103,7 +107,7 @@ pub record IsShape (plan : Plan) (m : Module) (shape : Shape) : Type 0 where
   pub listed : map item_of shape.steps.items ≡ filter live m.items
   pub dead : (item : Item) → In m.items item → live item ≡ false → IsDead (design_of plan) m item
   pub each : (k : ℕ) (step : Step) → slice_get shape.steps.items k ≡ Some step → IsStep plan m shape.depth step
-  pub sum : shape.size ≡ own_width m + sum_by (step_size plan) shape.steps.items
+  pub sum : shape.size ≡ own_width m + steps_size plan shape.steps.items
 
 -- there is a module with this number, and what is kept of it is right
 pub record IsKept (plan : Plan) (n : ℕ) : Type 0 where

@@ -1,5 +1,7 @@
 -- Which items of a module unfold to something, by the counts of the modules of their instances.
-use Rattle.std.specs.Prelude.{◌≡◌, ℕ, ◌<◌, Bool, true, false, ◌||◌, nat_lt, List, map, filter, slice_get, Option, Some, None}
+use Rattle.std.specs.Prelude.{◌≡◌, ℕ, ◌<◌, Bool, true, false, ◌||◌, nat_lt, List, map, filter, filter_map, slice_get, Option, Some, None}
+use Rattle.std.specs.Option.{option_map}
+use Rattle.vlog_parse.specs.declared.tree.Dir.{Dir}
 use Rattle.vlog_parse.specs.declared.tree.Tree.{Tree}
 use Rattle.vlog_parse.specs.declared.tree.Module.{Module}
 use Rattle.vlog_parse.specs.declared.tree.Item.{Item}
@@ -15,6 +17,16 @@ use Rattle.elab_unfold.specs.declared.shape.Step.TheVariants as steps
 use Rattle.elab_unfold.specs.declared.shape.Shape.{Shape}
 use Rattle.elab_unfold.specs.Places.{ArePlaces}
 use Rattle.elab_unfold.specs.Shapes.{item_of, ArePorts}
+
+-- the directions that items declare
+abbrev pub direction_in : Item → Option (List ℕ × Dir)
+direction_in (items.Net d) = option_map (λ dir. (d.name, dir)) d.dir
+direction_in (items.Assign target value) = None
+direction_in (items.Gate g) = None
+direction_in (items.Inst i) = None
+
+abbrev pub directions_of : List Item → List (List ℕ × Dir)
+directions_of given = filter_map direction_in given
 
 -- there is a net or a cell
 abbrev pub has_some : Count → Bool

@@ -1,9 +1,9 @@
-ghost use Rattle.std.specs.Prelude.{◌≡◌, ℕ, [], ◌∷◌, ◌+◌, ◌<◌, ◌^◌, ◌++◌, true, map, OnOk};
+ghost use Rattle.std.specs.Prelude.{◌≡◌, ℕ, ◌+◌, ◌<◌, ◌^◌, ◌++◌, true, map, IfOk, OnOk};
 ghost use Rattle.vlog_check.specs.Scope.{is_sound};
 ghost use Rattle.elab_design.specs.Design.{Path, Bit, sources};
 ghost use Rattle.elab_design.specs.Order.{links};
 ghost use Rattle.elab_design.specs.Raw.{raw_cell};
-ghost use Rattle.elab_unfold.specs.Places.{own_width, ArePlaces, Fits, pin_net, link_cell, link_cells};
+ghost use Rattle.elab_unfold.specs.Places.{own_width, ArePlaces, Fits, pin_net, link_cell, link_where, link_cells};
 
 use crate::exprs::push_pins;
 use crate::places::Places;
@@ -33,29 +33,41 @@ pub fn push_outs(pins: &[Pin], out: &mut Items<Option<NetId>>) -> Result<(), NoM
     Ok(())
 }
 
-// Adds the link from a pin to a net.
-fn push_link(
-    alloc: Global,
-    from: Pin,
-    to: NetId,
-    cells: &mut Items<RawCell>,
-) -> Result<(), NoMemory>
-    ensures { OnOk result (cells.new ≡ cells.old ++ link_cell from to ∷ []) }
+// The link from a pin to a net.
+fn link(alloc: Global, from: Pin, to: NetId) -> Result<RawCell, NoMemory>
+    ensures { IfOk result (λ cell. cell ≡ link_cell from to) }
 {
     let mut ins = Items::new(alloc);
     ins.push(from)?;
     let mut outs = Items::new(alloc);
     outs.push(Some(to))?;
-    let cell = RawCell {
+    Ok(RawCell {
         link: true,
         kind: CellKind::Gate(GateCode::Buf),
         name: None,
         ins,
         outs,
         clock: None,
-    };
-    cells.push(cell)?;
-    Ok(())
+    })
+}
+
+// Adds the link from a pin to another, if that is on a net.
+fn push_link(
+    alloc: Global,
+    from: Pin,
+    to: Pin,
+    cells: &mut Items<RawCell>,
+) -> Result<(), NoMemory>
+    ensures { OnOk result (cells.new ≡ cells.old ++ link_where from (pin_net to)) }
+{
+    match net_of(to) {
+        None => Ok(()),
+        Some(net) => {
+            let cell = link(alloc, from, net)?;
+            cells.push(cell)?;
+            Ok(())
+        }
+    }
 }
 
 /// Adds a link from each pin to the net in its place.
@@ -67,10 +79,8 @@ pub fn push_links(
 ) -> Result<(), NoMemory>
     ensures { OnOk result (cells.new ≡ cells.old ++ link_cells from.now to.now) }
 {
-    for (source, target) in from.iter().zip(to) {
-        if let Some(net) = net_of(*target) {
-            push_link(alloc, *source, net, cells)?;
-        }
+    for k in 0..from.len().min(to.len()) {
+        push_link(alloc, from[k], to[k], cells)?;
     }
     Ok(())
 }
@@ -94,5 +104,6 @@ pub fn push_assign(
     push_pins(places, base, target, &mut to)?;
     let mut from = Items::new(alloc);
     push_pins(places, base, value, &mut from)?;
-    push_links(alloc, from.as_slice(), to.as_slice(), cells)
+    push_links(alloc, from.as_slice(), to.as_slice(), cells)?;
+    Ok(())
 }

@@ -97,10 +97,17 @@ fn push_own(
 {
     match own {
         Own::Assign(target, value) => {
-            push_assign(alloc, places, base, target, value, &mut state.cells)
+            push_assign(alloc, places, base, target, value, &mut state.cells)?;
+            Ok(())
         }
-        Own::Gate(gate) => push_gate(alloc, places, base, gate, state),
-        Own::Leaf(cell, inst) => push_leaf(alloc, places, base, cell, inst, state),
+        Own::Gate(gate) => {
+            push_gate(alloc, places, base, gate, state)?;
+            Ok(())
+        }
+        Own::Leaf(cell, inst) => {
+            push_leaf(alloc, places, base, cell, inst, state)?;
+            Ok(())
+        }
     }
 }
 
@@ -125,7 +132,8 @@ fn push_border(
 {
     let next = state.nets;
     push_ports(alloc, places, base, inner, next, inst, &mut state.cells)?;
-    enter(&mut state.prefix, inst.name.bytes())
+    enter(&mut state.prefix, inst.name.bytes())?;
+    Ok(())
 }
 
 /// Adds a module at a path: its nets, and then its items in order. An instance of a module is its links,

@@ -55,7 +55,10 @@ fn push_whole(
 {
     match places.nets.get(name) {
         None => Ok(()),
-        Some(net) => push_nets(base + net.first, range_width(net.range) as u32, out),
+        Some(net) => {
+            push_nets(base + net.first, range_width(net.range) as u32, out)?;
+            Ok(())
+        }
     }
 }
 
@@ -76,7 +79,8 @@ fn push_bit(
         None => Ok(()),
         Some(net) => {
             let first = base + net.first + place_of(net.range, index);
-            push_nets(first, 1, out)
+            push_nets(first, 1, out)?;
+            Ok(())
         }
     }
 }
@@ -98,7 +102,8 @@ fn push_part(
         None => Ok(()),
         Some(net) => {
             let first = base + net.first + place_of(net.range, part.left);
-            push_nets(first, range_width(Some(part)) as u32, out)
+            push_nets(first, range_width(Some(part)) as u32, out)?;
+            Ok(())
         }
     }
 }
@@ -106,7 +111,7 @@ fn push_part(
 fn has_bit(value: u128, i: u8) -> bool
     ensures { result ≡ (bit_at value i == 1) }
 {
-    i < 128 && value >> i & 1 == 1
+    if i < 128 { value >> i & 1 == 1 } else { false }
 }
 
 fn bit_pin(bit: bool) -> Pin
@@ -139,18 +144,26 @@ pub fn push_pins(
     ensures { OnOk result ((path : Path) (number : Bit → ℕ) → Fits places.now.holder.now path base number → out.new ≡ out.old ++ map (pin number) (sources places.now.holder.now path e.now)) }
 {
     match e {
-        Expr::Whole(name, place) => push_whole(places, base, name.bytes(), *place, out),
+        Expr::Whole(name, place) => {
+            push_whole(places, base, name.bytes(), *place, out)?;
+            Ok(())
+        }
         Expr::Bit(name, index, place) => {
-            push_bit(places, base, name.bytes(), *index, *place, out)
+            push_bit(places, base, name.bytes(), *index, *place, out)?;
+            Ok(())
         }
         Expr::Part(name, left, right, place) => {
             let part = Range {
                 left: *left,
                 right: *right,
             };
-            push_part(places, base, name.bytes(), part, *place, out)
+            push_part(places, base, name.bytes(), part, *place, out)?;
+            Ok(())
         }
-        Expr::Const(word, _) => push_constant(*word, out),
+        Expr::Const(word, _) => {
+            push_constant(*word, out)?;
+            Ok(())
+        }
         Expr::Concat(parts) => {
             for part in parts.as_slice() {
                 push_pins(places, base, part, out)?;

@@ -1,4 +1,4 @@
-ghost use Rattle.std.specs.Prelude.{◌≡◌, ℕ, ◌+◌, ◌<◌, ◌^◌, ◌++◌, map, filter, find, replicate, Some, None, if◌then◌else◌, nat_lt, IfOk, OnOk};
+ghost use Rattle.std.specs.Prelude.{◌≡◌, ℕ, ◌+◌, ◌<◌, ◌^◌, ◌++◌, [], map, filter, find, replicate, Some, None, if◌then◌else◌, nat_lt, IfOk, OnOk};
 ghost use Rattle.std.specs.List.{flat_map};
 ghost use Rattle.std.specs.Option.{option_copied, option_map};
 ghost use Rattle.vlog_parse.specs.ReadTree.{connected_exprs};
@@ -137,7 +137,31 @@ fn push_pin(
 {
     match connected(&inst.conns, pin.name) {
         None => Ok(()),
-        Some(e) => push_pins(places, base, e, out),
+        Some(e) => {
+            push_pins(places, base, e, out)?;
+            Ok(())
+        }
+    }
+}
+
+// Adds what a pin of a cell is connected to, if it is an input other than the clock.
+fn push_input(
+    places: &Places,
+    base: u32,
+    inst: &Inst,
+    pin: &CellPin,
+    out: &mut Items<Pin>,
+) -> Result<(), NoMemory>
+    requires places { ArePlaces places.now }
+    requires room { base + own_width places.now.holder.now < 2 ^ 32 }
+    requires sound { AreSound places.now.holder.now (connected_exprs inst.now.conns) }
+    ensures { OnOk result ((path : Path) (number : Bit → ℕ) → Fits places.now.holder.now path base number → out.new ≡ out.old ++ map (pin_at number) (if rows.is_data_input (table.pin_row pin.now) then design.pin_sources places.now.holder.now path inst.now (table.pin_row pin.now) else [])) }
+{
+    if pin.way == Dir::Input && !is_clock(pin) {
+        push_pin(places, base, inst, pin, out)?;
+        Ok(())
+    } else {
+        Ok(())
     }
 }
 
@@ -156,9 +180,7 @@ fn read_ins(
 {
     let mut ins = Items::new(alloc);
     for pin in pins(cell) {
-        if pin.way == Dir::Input && !is_clock(pin) {
-            push_pin(places, base, inst, pin, &mut ins)?;
-        }
+        push_input(places, base, inst, pin, &mut ins)?;
     }
     Ok(ins)
 }
@@ -178,8 +200,8 @@ fn push_open(size: Size, out: &mut Items<Option<NetId>>) -> Result<(), NoMemory>
     Ok(())
 }
 
-// Adds the nets that an output of a cell is on.
-fn push_output(
+// Adds the nets that a pin of a cell is on.
+fn push_targets(
     alloc: Global,
     places: &Places,
     base: u32,
@@ -193,12 +215,38 @@ fn push_output(
     ensures { OnOk result ((path : Path) (number : Bit → ℕ) → Fits places.now.holder.now path base number → out.new ≡ out.old ++ out_nets number (design.pin_targets places.now.holder.now path inst.now (table.pin_row pin.now))) }
 {
     match connected(&inst.conns, pin.name) {
-        None => push_open(pin.size, out),
+        None => {
+            push_open(pin.size, out)?;
+            Ok(())
+        }
         Some(e) => {
             let mut found = Items::new(alloc);
             push_pins(places, base, e, &mut found)?;
-            push_outs(found.as_slice(), out)
+            push_outs(found.as_slice(), out)?;
+            Ok(())
         }
+    }
+}
+
+// Adds the nets that a pin of a cell is on, if it is an output.
+fn push_output(
+    alloc: Global,
+    places: &Places,
+    base: u32,
+    inst: &Inst,
+    pin: &CellPin,
+    out: &mut Items<Option<NetId>>,
+) -> Result<(), NoMemory>
+    requires places { ArePlaces places.now }
+    requires room { base + own_width places.now.holder.now < 2 ^ 32 }
+    requires sound { AreSound places.now.holder.now (connected_exprs inst.now.conns) }
+    ensures { OnOk result ((path : Path) (number : Bit → ℕ) → Fits places.now.holder.now path base number → out.new ≡ out.old ++ out_nets number (if rows.is_data_output (table.pin_row pin.now) then design.pin_targets places.now.holder.now path inst.now (table.pin_row pin.now) else [])) }
+{
+    if pin.way == Dir::Output {
+        push_targets(alloc, places, base, inst, pin, out)?;
+        Ok(())
+    } else {
+        Ok(())
     }
 }
 
@@ -217,9 +265,7 @@ fn read_outs(
 {
     let mut outs = Items::new(alloc);
     for pin in pins(cell) {
-        if pin.way == Dir::Output {
-            push_output(alloc, places, base, inst, pin, &mut outs)?;
-        }
+        push_output(alloc, places, base, inst, pin, &mut outs)?;
     }
     Ok(outs)
 }

@@ -1,13 +1,13 @@
-ghost use Rattle.std.specs.Prelude.{◌≡◌, ℕ, List, ◌<◌, ◌^◌, length, map, slice_get, Some, IfOk, IfSome};
-ghost use Rattle.std.specs.Option.{option_map};
+ghost use Rattle.std.specs.Prelude.{◌≡◌, ℕ, List, [], ◌∷◌, ◌++◌, ◌<◌, ◌^◌, length, map, slice_get, Some, IfOk, IfSome, OnOk};
 ghost use Rattle.vlog_parse.specs.declared.tree.Module.{Module as ModuleOf};
+ghost use Rattle.vlog_parse.specs.declared.tree.Item.{Item as ItemOf};
 ghost use Rattle.vlog_check.specs.Scope as look;
 ghost use Rattle.elab_scope.specs.declared.amounts.Count.{Count as CountOf};
 ghost use Rattle.elab_scope.specs.Modules.{AreNumbered};
 ghost use Rattle.elab_scope.specs.Nets.{named_nets};
 ghost use Rattle.elab_unfold.specs.Places.{ArePlaces, rows_width};
 ghost use Rattle.elab_unfold.specs.Shapes.{port_seen, port_entry};
-ghost use Rattle.elab_unfold.specs.Steps.{IsReadShape, AreShapes};
+ghost use Rattle.elab_unfold.specs.Steps.{IsReadShape, AreShapes, directions_of};
 
 use crate::places::{Places, place_nets};
 use crate::shape::{PortNet, Shape};
@@ -18,17 +18,31 @@ use std::alloc::Global;
 use vlog_check::Table;
 use vlog_parse::{Dir, Item, Module};
 
+// Says which direction an item declares behind others.
+fn add_direction<'a>(directions: &mut Table<'a, Dir>, item: &'a Item) -> Result<(), NoMemory>
+    ensures { OnOk result ((given : List ItemOf) → ((name : List ℕ) → look.value_of directions.old name ≡ look.value_of (directions_of given) name) → (name : List ℕ) → look.value_of directions.new name ≡ look.value_of (directions_of (given ++ item.now ∷ [])) name) }
+{
+    match item {
+        Item::Net(d) => match d.dir {
+            None => Ok(()),
+            Some(dir) => {
+                directions.put(d.name.bytes(), dir)?;
+                Ok(())
+            }
+        },
+        Item::Assign(_, _) => Ok(()),
+        Item::Gate(_) => Ok(()),
+        Item::Inst(_) => Ok(()),
+    }
+}
+
 /// The direction of each name of a module that has one, that of its first declaration by a direction.
 pub fn read_directions<'a>(alloc: Global, m: &'a Module) -> Result<Table<'a, Dir>, NoMemory>
     ensures { IfOk result (λ directions. (name : List ℕ) → look.value_of directions name ≡ look.direction_of m.now name) }
 {
     let mut directions = Table::new(alloc);
     for item in m.items.as_slice() {
-        if let Item::Net(d) = item {
-            if let Some(dir) = d.dir {
-                directions.put(d.name.bytes(), dir)?;
-            }
-        }
+        add_direction(&mut directions, item)?;
     }
     Ok(directions)
 }
@@ -120,7 +134,10 @@ fn shape_of<'a>(
 {
     match count {
         None => Ok(no_shape(alloc, m)),
-        Some(count) => read_shape(alloc, modules, counts, m, count),
+        Some(count) => {
+            let shape = read_shape(alloc, modules, counts, m, count)?;
+            Ok(shape)
+        }
     }
 }
 

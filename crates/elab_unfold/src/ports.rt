@@ -74,7 +74,10 @@ fn push_inside(next: u32, net: Option<Net>, out: &mut Items<Pin>) -> Result<(), 
 {
     match net {
         None => Ok(()),
-        Some(net) => push_nets(next + net.first, range_width(net.range) as u32, out),
+        Some(net) => {
+            push_nets(next + net.first, range_width(net.range) as u32, out)?;
+            Ok(())
+        }
     }
 }
 
@@ -99,9 +102,11 @@ fn push_port(
     let mut inside = Items::new(alloc);
     push_inside(next, port.net, &mut inside)?;
     if port.output {
-        push_links(alloc, inside.as_slice(), outside.as_slice(), cells)
+        push_links(alloc, inside.as_slice(), outside.as_slice(), cells)?;
+        Ok(())
     } else {
-        push_links(alloc, outside.as_slice(), inside.as_slice(), cells)
+        push_links(alloc, outside.as_slice(), inside.as_slice(), cells)?;
+        Ok(())
     }
 }
 
@@ -123,7 +128,10 @@ fn push_given(
 {
     match e {
         None => Ok(()),
-        Some(e) => push_port(alloc, outer, base, next, port, e, cells),
+        Some(e) => {
+            push_port(alloc, outer, base, next, port, e, cells)?;
+            Ok(())
+        }
     }
 }
 

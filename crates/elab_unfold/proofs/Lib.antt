@@ -1,0 +1,3 @@
+pub mod NetLaws
+pub mod PinLaws
+pub mod RangeLaws
