@@ -1,5 +1,5 @@
 -- The data inputs of a design and of its flat netlist.
-use Rattle.std.proofs.Common.{◌≡◌, ℕ, zero, suc, ◌+◌, ◌-◌, ◌<◌, ◌≤◌, Bool, true, false, not, ◌&&◌, cond, List, [], ◌∷◌, ◌++◌, map, length, slice_get, Option, Some, None, refl, ap, sym, ◌∙◌, subst, arith, lt-ltb}
+use Rattle.std.proofs.Common.{◌≡◌, ℕ, suc, ◌+◌, ◌-◌, ◌<◌, Bool, true, false, not, ◌&&◌, cond, List, [], ◌∷◌, map, length, slice_get, Option, Some, None, refl, ap, sym, ◌∙◌, subst, arith, lt-ltb}
 use Rattle.std.specs.Prelude.{filter, nat_lt, nat_le, reverse}
 use Rattle.std.specs.List.{range_with_len}
 use Rattle.std.specs.Option.{option_map_or}
@@ -13,10 +13,8 @@ use Rattle.net_core.specs.Netlist.{Netlist, numbers, group_nets, port_nets, is_c
 use Rattle.net_core.specs.WellFormed.{IsFlat, bit_names, indexed_name, range_indices}
 use Rattle.vlog_parse.specs.declared.tree.Module.{Module}
 use Rattle.vlog_parse.specs.ReadTree.{In}
-use Rattle.vlog_check.specs.Scope.{direction_of, is_output}
-use Rattle.stim_read.specs.declared.inputs.DataInput.{DataInput}
 use Rattle.stim_read.specs.Ports.{port_name, is_data_bit, data_bits, is_data_port, data_input, data_inputs}
-use Rattle.elab_design.specs.Design.{Bit, net_bits, Design, IsTop}
+use Rattle.elab_design.specs.Design.{Bit, net_bits, Design}
 use Rattle.elab_design.specs.DesignRuns.{is_input_port}
 use Rattle.elab_design.specs.Raw.{flat_port}
 use Rattle.elab_design.specs.Elaborates.{Elaborates, HasFlatPort}
@@ -28,9 +26,9 @@ use Rattle.design_text.proofs.PickLaws.{picked}
 indices_some : (left right : ℕ) → 0 < length (range_indices left right)
 indices_some left right = by (nat_le right left)
   where
-  by : (b : Bool) → 0 < length (cond b (reverse (range_with_len right (left - right + 1))) (range_with_len left (right - left + 1)))
-  by true = omega (arith, length-reverse (range_with_len right (left - right + 1)), length-range_with_len right (left - right + 1))
-  by false = omega (arith, length-range_with_len left (right - left + 1))
+    by : (b : Bool) → 0 < length (cond b (reverse (range_with_len right (left - right + 1))) (range_with_len left (right - left + 1)))
+    by true = omega (arith, length-reverse (range_with_len right (left - right + 1)), length-range_with_len right (left - right + 1))
+    by false = omega (arith, length-range_with_len left (right - left + 1))
 
 names_some : (name : List ℕ) (range : Option (ℕ × ℕ)) → 0 < length (option_map_or (λ (r : ℕ × ℕ). map (indexed_name name) (range_indices r.0 r.1)) range (name ∷ []))
 names_some name None = omega arith
@@ -85,13 +83,13 @@ module _ (d : Design) (net : Netlist) (own : Elaborates d net) (flat : IsFlat ne
     test_is : (k : ℕ) (name : List ℕ) → slice_get top.ports k ≡ Some name → is_data_port net (flat_port top (name, k)) ≡ (is_input_port top name && not (bytes_eq name d.clock))
     test_is k name at = by (is_input_port top name) refl
       where
-      some_wide : (t : Bool) → nat_lt 0 (length (cond t [] (map own.number (net_bits top [] name)))) ≡ not t
-      some_wide true = refl
-      some_wide false = lt-ltb 0 (length (map own.number (net_bits top [] name))) (omega (arith, some_bit k name at, length-map (net_bits top [] name) own.number))
+        some_wide : (t : Bool) → nat_lt 0 (length (cond t [] (map own.number (net_bits top [] name)))) ≡ not t
+        some_wide true = refl
+        some_wide false = lt-ltb 0 (length (map own.number (net_bits top [] name))) (omega (arith, some_bit k name at, length-map (net_bits top [] name) own.number))
 
-      by : (i : Bool) → is_input_port top name ≡ i → (i && nat_lt 0 (length (data_bits net (flat_port top (name, k))))) ≡ (i && not (bytes_eq name d.clock))
-      by true way = ap (λ ns. nat_lt 0 (length ns)) (bits_of k name at way) ∙ some_wide (bytes_eq name d.clock)
-      by false way = refl
+        by : (i : Bool) → is_input_port top name ≡ i → (i && nat_lt 0 (length (data_bits net (flat_port top (name, k))))) ≡ (i && not (bytes_eq name d.clock))
+        by true way = ap (λ ns. nat_lt 0 (length ns)) (bits_of k name at way) ∙ some_wide (bytes_eq name d.clock)
+        by false way = refl
 
     input_is : (k : ℕ) (name : List ℕ) → slice_get top.ports k ≡ Some name → (is_input_port top name && not (bytes_eq name d.clock)) ≡ true
         → data_input net (flat_port top (name, k)) ≡ design_input top name
@@ -107,5 +105,5 @@ module _ (d : Design) (net : Netlist) (own : Elaborates d net) (flat : IsFlat ne
         ∙ picked top (data_input net) (design_input top) (is_data_port net) (λ name. is_input_port top name && not (bytes_eq name d.clock)) 0 top.ports
         (λ k name at. (let e : 0 + k ≡ k = omega arith in
         subst (λ j. (is_data_port net (flat_port top (name, j)) ≡ (is_input_port top name && not (bytes_eq name d.clock)))
-            × ((is_input_port top name && not (bytes_eq name d.clock)) ≡ true → data_input net (flat_port top (name, j)) ≡ design_input top name)) (sym e)
+        × ((is_input_port top name && not (bytes_eq name d.clock)) ≡ true → data_input net (flat_port top (name, j)) ≡ design_input top name)) (sym e)
         (test_is k name at, input_is k name at)))

@@ -1,10 +1,10 @@
 -- The outputs text of a design and of its flat netlist.
-use Rattle.std.proofs.Common.{◌≡◌, ℕ, zero, suc, ◌+◌, Bool, true, false, List, [], ◌∷◌, ◌++◌, map, length, slice_get, Option, Some, None, refl, ap, sym, ◌∙◌, subst, arith}
+use Rattle.std.proofs.Common.{◌≡◌, ℕ, zero, suc, ◌+◌, Bool, List, [], ◌∷◌, ◌++◌, map, slice_get, Option, Some, None, refl, ap, sym, ◌∙◌, subst, arith}
 use Rattle.std.specs.Prelude.{filter}
 use Rattle.std.specs.List.{flat_map, range_with_len}
 use Rattle.std.specs.Option.{option_map_or}
 use Rattle.net_core.specs.declared.parts.Port.{Port}
-use Rattle.net_core.specs.Netlist.{Netlist, port_nets}
+use Rattle.net_core.specs.Netlist.{Netlist}
 use Rattle.net_core.specs.Run.{History}
 use Rattle.net_core.specs.WellFormed.{IsFlat}
 use Rattle.vlog_parse.specs.declared.tree.Module.{Module}
@@ -51,15 +51,15 @@ in_map f (y ∷ xs) x (suc k, at) = let rest = in_map f xs x (k, at) in (suc res
 pub top_bit : (d : Design) (top : Module) → IsTop d top → (name : List ℕ) (b : Bit) → In (net_bits top [] name) b → IsNetBit d b
 top_bit d top is_top name b at = by (range_of top name) refl at
   where
-  by : (o : Option (Option Range)) → range_of top name ≡ o → In (option_map_or (λ range. map (bit_of [] name) (indices range)) o []) b → IsNetBit d b
-  by None is there = absurd (in_none b there)
-  by (Some range) is there =
-      let i = map_in (bit_of [] name) (indices range) b there in
-      subst (IsNetBit d) i.2 (record {
-        holder = top;
-        leads = at_top top is_top;
-        among = subst (λ (o : Option (Option Range)). In (option_map_or (λ range. map (bit_of [] name) (indices range)) o []) (bit_of [] name i.0)) (sym is) (in_map (bit_of [] name) (indices range) i.0 i.1);
-      })
+    by : (o : Option (Option Range)) → range_of top name ≡ o → In (option_map_or (λ range. map (bit_of [] name) (indices range)) o []) b → IsNetBit d b
+    by None is there = absurd (in_none b there)
+    by (Some range) is there =
+        let i = map_in (bit_of [] name) (indices range) b there in
+        subst (IsNetBit d) i.2 (record {
+          holder = top;
+          leads = at_top top is_top;
+          among = subst (λ (o : Option (Option Range)). In (option_map_or (λ range. map (bit_of [] name) (indices range)) o []) (bit_of [] name i.0)) (sym is) (in_map (bit_of [] name) (indices range) i.0 i.1);
+        })
 
 module _ (d : Design) (net : Netlist) (own : Elaborates d net) (flat : IsFlat net)
     (ports : (k : ℕ) (name : List ℕ) → slice_get own.order.top.ports k ≡ Some name → HasFlatPort net own.number own.order.top k name) where
@@ -79,8 +79,8 @@ module _ (d : Design) (net : Netlist) (own : Elaborates d net) (flat : IsFlat ne
 
   line_is : (one : ℕ → Bool) (other : Bit → Bool) → ((b : Bit) → IsNetBit d b → one (own.number b) ≡ other b) → clock_line net one ≡ design_line top other
   line_is one other carried = ap line_of (outputs (word_at net one) (design_word top other) (λ k name at.
-    ap (λ ns. hex_word (map one ns)) (nets_are d net own flat ports k name at)
-    ∙ ap hex_word (numbered_map own.number one other (net_bits top [] name) (λ b there. carried b (top_bit d top own.order.is_top name b there)))))
+      ap (λ ns. hex_word (map one ns)) (nets_are d net own flat ports k name at)
+      ∙ ap hex_word (numbered_map own.number one other (net_bits top [] name) (λ b there. carried b (top_bit d top own.order.is_top name b there)))))
 
   pub text_is : (g : History) (h : DesignHistory) → ((t : ℕ) (b : Bit) → IsNetBit d b → g.bit t (own.number b) ≡ h.bit t b) → (clocks : ℕ)
       → outputs_text net g clocks ≡ design_text top h clocks

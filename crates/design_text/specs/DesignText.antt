@@ -1,6 +1,6 @@
 -- What a simulation shows of a design: its data inputs, and the outputs text of its run. It speaks of the design's own net bits, and
 -- not of a flat netlist.
-use Rattle.std.specs.Prelude.{◌≡◌, ℕ, Bool, not, ◌&&◌, List, [], ◌++◌, map, filter, flat_map, length, Option}
+use Rattle.std.specs.Prelude.{ℕ, Bool, not, ◌&&◌, List, [], ◌++◌, map, filter, flat_map, length, Option}
 use Rattle.std.specs.List.{range_with_len}
 use Rattle.std.specs.Str.{bytes_eq}
 use Rattle.std.specs.Io.KnownBytes.{Appends}

@@ -1,4 +1,4 @@
-use Rattle.std.proofs.Common.{◌≡◌, ℕ, List, length, subst}
+use Rattle.std.proofs.Common.{length, subst}
 use Rattle.std.specs.Io.KnownBytes.{Appends}
 use Rattle.ila_base.specs.Faults.{AppendsFront}
 use Rattle.design_text.proofs.TextLaws.{text_is}
