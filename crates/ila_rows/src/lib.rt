@@ -13,6 +13,8 @@ mod checked_widths;
 #[cfg(test)]
 mod commands;
 #[cfg(test)]
+mod designs;
+#[cfg(test)]
 mod marked;
 #[cfg(test)]
 mod outcome;

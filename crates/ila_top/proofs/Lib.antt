@@ -1,7 +1,4 @@
-pub mod Begun
-pub mod Gains
 pub mod Lines
-pub mod RowLaws
-pub mod Seen
-pub mod Simulation
 pub mod Refused
+pub mod Taken
+pub mod Cycles
