@@ -1,4 +1,5 @@
+pub mod Complete
+pub mod Cycles
 pub mod Lines
 pub mod Refused
 pub mod Taken
-pub mod Cycles

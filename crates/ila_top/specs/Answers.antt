@@ -9,6 +9,7 @@ use Rattle.ila_base.specs.declared.place.Place.{Place}
 use Rattle.ila_base.specs.declared.refusal.LimitKind.TheVariants as limits
 use Rattle.ila_base.specs.declared.refusal.NetRefusal.{NetRefusal}
 use Rattle.ila_base.specs.declared.refusal.NetRefusal.TheVariants as net
+use Rattle.ila_base.specs.declared.refusal.StimRefusal.{StimRefusal}
 use Rattle.ila_base.specs.declared.refusal.StimRefusal.TheVariants as stim
 use Rattle.vlog_parse.specs.declared.tree.Tree.{Tree}
 use Rattle.vlog_parse.specs.declared.tree.Module.{Module}
@@ -162,6 +163,27 @@ SimCause sim before after ShelfFault = Rose before.shelf_faults after.shelf_faul
 SimCause sim before after NoMemory = ⊤
 SimCause sim before after status = (tree : Tree) × (top : Module) × IsAccepted sim before (design_of tree sim.top sim.clock) top
     × SimAnswer (design_of tree sim.top sim.clock) top (streams_of before) (streams_of after) status
+
+-- the line that the stimulus is refused at: its header, or one behind rows
+abbrev pub IsStimRefusal : List DataInput → Option (List ℕ) → StimRefusal → Type 0
+IsStimRefusal inputs text stim.Header = HasNoHeader inputs text
+IsStimRefusal inputs text why = (rows : List (List Bool)) × RefusesIfTold inputs text rows why
+
+-- The netlist's file is there, no sentence of a refusal holds, and no count of faults has risen.
+pub record IsClear (sim : SimWords) (before after : Outside) : Type 0 where
+  pub there : ¬ LacksIfTold before.files sim.netlist
+  pub netlist : (refusal : NetRefusal) (place : Place) → ¬ NetCause sim before refusal place
+  pub stimulus : (tree : Tree) (top : Module) (why : StimRefusal) → IsAccepted sim before (design_of tree sim.top sim.clock) top
+      → ¬ IsStimRefusal (design_inputs top sim.clock) before.left why
+  pub shelf : ¬ Rose before.shelf_faults after.shelf_faults
+  pub reads : ¬ Rose before.read_faults after.read_faults
+  pub writes : ¬ Rose before.write_faults after.write_faults
+
+-- done, or memory wasn't found
+abbrev pub IsDone : Status → Type 0
+IsDone Done = ⊤
+IsDone NoMemory = ⊤
+IsDone _ = ⊥
 
 -- Why a command answers as it does: Usage exactly where the words are of no command.
 abbrev pub Cause : List (List ℕ) → Outside → Outside → Status → Type 0

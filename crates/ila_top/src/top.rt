@@ -1,5 +1,5 @@
-ghost use Rattle.std.specs.Prelude.{◌≡◌, ◌≤◌, [], map, string_bytes};
-ghost use Rattle.ila_top.specs.Answers.{Cause, Stands, IsReported};
+ghost use Rattle.std.specs.Prelude.{◌≡◌, ◌≤◌, [], map, Some, string_bytes};
+ghost use Rattle.ila_top.specs.Answers.{SimWords, sim_words, Cause, IsClear, IsDone, Stands, IsReported};
 
 use crate::ending::report;
 use crate::form::sim_of;
@@ -24,6 +24,12 @@ pub fn ila<H: Shelf, S: Source, K: Sink, E: Sink>(
         (record { files = H.files shelf.old; shelf_faults = H.faults shelf.old; left = S.left stimulus.old; read_faults = S.faults stimulus.old; written = K.written trace.old; write_faults = K.faults trace.old })
         (record { files = H.files shelf.new; shelf_faults = H.faults shelf.new; left = S.left stimulus.new; read_faults = S.faults stimulus.new; written = K.written trace.new; write_faults = K.faults trace.new })
         result }
+    // Where the words are those of `sim`, no sentence of a refusal holds and no count has risen, it is
+    // done, or memory wasn't found.
+    ensures complete { (sim : SimWords) → sim_words (map string_bytes words.now) ≡ Some sim → IsClear sim
+        (record { files = H.files shelf.old; shelf_faults = H.faults shelf.old; left = S.left stimulus.old; read_faults = S.faults stimulus.old; written = K.written trace.old; write_faults = K.faults trace.old })
+        (record { files = H.files shelf.new; shelf_faults = H.faults shelf.new; left = S.left stimulus.new; read_faults = S.faults stimulus.new; written = K.written trace.new; write_faults = K.faults trace.new })
+        → IsDone result }
     // What stands of files, stimulus and trace after each answer.
     ensures stands { Stands
         (record { files = H.files shelf.old; shelf_faults = H.faults shelf.old; left = S.left stimulus.old; read_faults = S.faults stimulus.old; written = K.written trace.old; write_faults = K.faults trace.old })
