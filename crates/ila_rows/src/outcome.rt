@@ -65,10 +65,11 @@ fn refused(alloc: Global, fault: &NetFault) -> Result<Outcome, Fail> {
 /// What the checks of a text with a top of this name give.
 pub fn outcome_of(alloc: Global, text: &[u8], top: &str) -> Result<Outcome, Fail> {
     let tree = tree_of(alloc, text)?;
+    let count = tree.modules.len();
     match check(alloc, tree, top) {
         Ok(checked) => {
-            if checked.top().bytes() != top.as_bytes() {
-                return Err(Fail::from("another top"));
+            if checked.top().bytes() != top.as_bytes() || checked.tree().modules.len() != count {
+                return Err(Fail::from("another design"));
             }
             Ok(Outcome {
                 line: Vec::new(alloc),

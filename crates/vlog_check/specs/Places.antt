@@ -49,8 +49,8 @@ pub data StandsAt (tree : Tree) : Site → Place → Type 0 where
   leaf : (k i e l : ℕ) (m : Module) (item : Item) (expr : Expr) (own : Leaf) → slice_get tree.modules k ≡ Some m → slice_get m.items i ≡ Some item → expr_at item e ≡ Some expr
       → slice_get (leaves expr) l ≡ Some own → StandsAt tree (AtLeaf k i e l) (leaf_place own)
 
--- Nothing else has the place of a module, an item or a leaf, and each expression has a leaf. So it is in each tree of a text,
--- where no two tokens have one place.
+-- Each module, item and leaf has a place that nothing else has, as in a text no two tokens have one place, and each expression has a
+-- leaf. The laws of one finding and one refusal take this of a tree.
 pub record HasOwnPlaces (tree : Tree) : Type 0 where
   pub own : (s t : Site) (place : Place) → StandsAt tree s place → StandsAt tree t place → s ≡ t
   pub some : (k i e : ℕ) (m : Module) (item : Item) (expr : Expr) → slice_get tree.modules k ≡ Some m → slice_get m.items i ≡ Some item → expr_at item e ≡ Some expr → 0 < length (leaves expr)
