@@ -1,21 +1,19 @@
 -- What is told of names, ranges and expressions that are read.
-use Rattle.std.proofs.Common.{◌≡◌, refl, sym, ◌∙◌, ap, subst, ℕ, zero, suc, ◌+◌, ◌<◌, ◌≤◌, true, List, [], ◌∷◌, ◌++◌, length, map, arith}
+use Rattle.std.proofs.Common.{◌≡◌, sym, ◌∙◌, ap, subst, ℕ, zero, suc, ◌+◌, ◌<◌, ◌≤◌, true, List, [], ◌∷◌, ◌++◌, length, arith}
 use Rattle.std.specs.List.{flat_map}
 use Rattle.grammar.specs.Rule.{Rule, ◌>>=◌, pure}
 use Rattle.grammar.specs.ChoiceLaws.{or_left, or_right}
 use Rattle.grammar.specs.YieldLaws.{Fact, Yields, AreAll, any_yields, term_yields, pure_yields, then_yields, either_yields, list_yields, all_append, all_within}
-use Rattle.ila_base.specs.declared.place.Place.{Place}
-use Rattle.ila_base.specs.declared.place.Word.{Word}
 use Rattle.vlog_parse.specs.declared.parts.Named.{Named}
 use Rattle.vlog_parse.specs.declared.sort.Sort.{Sort}
 use Rattle.vlog_parse.specs.declared.sort.Sort.TheVariants.{Name, Sized, LeftBracket, RightBracket, LeftBrace, RightBrace, Comma, Colon}
-use Rattle.vlog_parse.specs.declared.tree.Expr.{Expr, fold-roll-Expr}
-use Rattle.vlog_parse.specs.declared.tree.Expr.TheVariants.{Whole, Bit, Part, Const, Concat, rolls-Whole, rolls-Bit, rolls-Part, rolls-Const, rolls-Concat}
-use Rattle.vlog_parse.specs.declared.tree.Expr.TheOpen as layer
+use Rattle.vlog_parse.specs.declared.tree.Expr.{Expr}
+use Rattle.vlog_parse.specs.declared.tree.Expr.TheVariants.{Whole, Bit, Part, Const, Concat}
 use Rattle.vlog_parse.specs.declared.tree.Range.{Range}
 use Rattle.vlog_parse.specs.Lexemes.{Lexeme}
 use Rattle.vlog_parse.specs.Expressions.{is, mark, named, name, number, range, part_behind, bit_behind, select_behind, reference, constant_of, constant, operand, args, concatenation, expr_over, expr_within, expr}
-use Rattle.vlog_parse.specs.Leaves.{Leaf, Net as NetLeaf, Bit as BitLeaf, Part as PartLeaf, Fixed as FixedLeaf, leaves, leaves_at}
+use Rattle.vlog_parse.specs.Leaves.{Leaf, Net as NetLeaf, Bit as BitLeaf, Part as PartLeaf, Fixed as FixedLeaf, leaves}
+use Rattle.vlog_parse.specs.LeafLaws.{leaves-Whole, leaves-Bit, leaves-Part, leaves-Const, leaves-Concat}
 use Rattle.vlog_parse.specs.Limits.{opens_index}
 use Rattle.vlog_parse.specs.ReadTree.{IsSpelled, IsReadLeaf}
 use Rattle.vlog_parse.proofs.LexemeLaws.{IsReadPart, read_part}
@@ -79,18 +77,6 @@ expr_fact e n = AreAll leaf_fact (leaves e) n × (0 < n)
 one_leaf : (e : Expr) (l : Leaf) (n : ℕ) → leaves e ≡ l ∷ [] → IsReadLeaf l → 0 < n → expr_fact e n
 one_leaf e l n is read some = (subst (λ ls. AreAll leaf_fact ls n) (sym is) (1, 0, omega (arith, some), (read, omega arith), tt), some)
 
-leaves-Whole : (name : List ℕ) (place : Place) → leaves (Whole name place) ≡ NetLeaf name place ∷ []
-leaves-Whole name place = ap leaves (sym (rolls-Whole name place)) ∙ fold-roll-Expr (List Leaf) leaves_at (layer.Whole name place)
-
-leaves-Bit : (name : List ℕ) (index : ℕ) (place : Place) → leaves (Bit name index place) ≡ BitLeaf name index place ∷ []
-leaves-Bit name index place = ap leaves (sym (rolls-Bit name index place)) ∙ fold-roll-Expr (List Leaf) leaves_at (layer.Bit name index place)
-
-leaves-Part : (name : List ℕ) (left right : ℕ) (place : Place) → leaves (Part name left right place) ≡ PartLeaf name left right place ∷ []
-leaves-Part name left right place = ap leaves (sym (rolls-Part name left right place)) ∙ fold-roll-Expr (List Leaf) leaves_at (layer.Part name left right place)
-
-leaves-Const : (word : Word) (place : Place) → leaves (Const word place) ≡ FixedLeaf word place ∷ []
-leaves-Const word place = ap leaves (sym (rolls-Const word place)) ∙ fold-roll-Expr (List Leaf) leaves_at (layer.Const word place)
-
 reference_fact : Yields Lexeme Expr read_part reference expr_fact
 reference_fact =
     then_yields read_part name _ expr_fact name_read
@@ -113,14 +99,6 @@ all_leaves : (es : List Expr) (n : ℕ) → AreAll expr_fact es n → AreAll lea
 all_leaves [] n all = tt
 all_leaves (e ∷ es) n (m, k, few, told, more) =
     all_within leaf_fact (leaves e ++ flat_map leaves es) (m + k) n few (all_append leaf_fact (leaves e) (flat_map leaves es) m k told.0 (all_leaves es k more))
-
-flat_map_map : {X Y : Type 0} (f : X → List Y) (xs : List X) → flat_map (λ (ys : List Y). ys) (map f xs) ≡ flat_map f xs
-flat_map_map f [] = refl
-flat_map_map f (x ∷ xs) = ap (λ rest. f x ++ rest) (flat_map_map f xs)
-
--- the leaves of a concatenation are those of its parts
-leaves-Concat : (parts : List Expr) → leaves (Concat parts) ≡ flat_map leaves parts
-leaves-Concat parts = ap leaves (sym (rolls-Concat parts)) ∙ (fold-roll-Expr (List Leaf) leaves_at (layer.Concat parts) ∙ flat_map_map leaves parts)
 
 concatenated : (es : List Expr) (m n : ℕ) → m ≤ n → 0 < n → AreAll expr_fact es m → expr_fact (Concat es) n
 concatenated es m n few some all =

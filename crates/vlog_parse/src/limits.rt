@@ -102,7 +102,8 @@ fn stays_clean(clean: bool, sort: Sort) -> bool
 
 impl<'a> Parser<'a> {
     /// The first limit that the tokens pass, if one does: 33 braces are open at once, or an index is
-    /// above 1,048,575. It takes the tokens to there.
+    /// above 1,048,575. It takes the tokens to there, and where it takes them all, it also tells
+    /// whether each stands for a construct of the profile.
     pub fn scan(&mut self) -> Scan
         ensures excess { result.excess ≡ first_excess 0 false self.old }
         ensures clean { result.clean ≡ true → AreClean self.old }
