@@ -5,5 +5,6 @@
 mod laws;
 
 pub use laws::{
-    bits_have_numbers, elaborates, has_counts, one_flat, one_order, order_is_whole, raw_is_unfolded,
+    bits_have_numbers, elaborates, has_counts, one_fault, one_flat, one_order, order_is_whole,
+    raw_is_unfolded,
 };
