@@ -69,6 +69,11 @@ none_of : {X : Type 0} (o : Option X) → is_none o ≡ false → (x : X) × (o 
 none_of None is = absurd (true≢false is)
 none_of (Some x) is = (x, refl)
 
+-- what a pin is connected to by its name
+connected_by_name : (conns : Conns) (given : List (List ℕ × Option Expr)) (name : List ℕ) (o : Option Expr) (e : Expr) → conns ≡ ByName given → value_of given name ≡ Some o → o ≡ Some e → connected conns 0 name ≡ Some e
+connected_by_name conns given name o e same value is =
+    ap (λ (c : Conns). connected c 0 name) same ∙ ap (option_and_then (λ (x : Option Expr). x)) value ∙ is
+
 in_is_input : (way : Dir) → is_in way ≡ true → is_input (Some way) ≡ true
 in_is_input Input is = refl
 in_is_input Output is = absurd (true≢false (sym is))
@@ -196,7 +201,7 @@ module _ (tree : Tree) (clean : (f : Found) → Finds tree f → ⊥) (m : Modul
       let its : goes_in (pin_of inst (OfCell cell) c.1.0) ≡ true = ap (λ n. goes_in (pin_of inst (OfCell cell) n)) (sym c.3) ∙ goes in
       let some = none_of c.1.1 (not_both (goes_in (pin_of inst (OfCell cell) c.1.0)) (is_none c.1.1) (unless_found _ (λ t. entry_clean c.0 c.1 _ c.2 (inr (inl (t, refl))))) its) in (
         some.0,
-        ap (λ (conns : Conns). connected conns 0 row.name) by_name.1 ∙ ap (option_and_then (λ (o : Option Expr). o)) (value.1 ∙ ap (λ o. Some o) (sym c.4 ∙ some.1)),
+        connected_by_name inst.conns by_name.0 row.name value.0 some.0 by_name.1 value.1 (sym c.4 ∙ some.1),
       )
 
   -- Lengths of pins

@@ -23,4 +23,7 @@ pub mod LeafLaws
 pub mod UnfoldedLaws
 pub mod ExistLaws
 pub mod CountLaws
+pub mod NumberLaws
 pub mod OneFlatLaws
+pub mod OneRawLaws
+pub mod FaultLaws

@@ -1,26 +1,25 @@
 -- A checked design has at most one flat netlist.
-use Rattle.std.proofs.Common.{◌≡◌, true, false, List, [], ◌∷◌, map, slice_get, Option, Some, None, MatchOption, refl, ap, sym, ◌∙◌, subst}
+use Rattle.std.proofs.Common.{◌≡◌, List, [], ◌∷◌, map, slice_get, Option, Some, None, MatchOption, refl, ap, sym, ◌∙◌, subst}
 use Rattle.std.specs.List.{flat_map, filter_map}
-use Rattle.std.specs.Option.{option_map, option_and_then}
 use Rattle.std.specs.Str.{bytes_eq}
 use Rattle.std.proofs.lemmas.Option.{same_Some}
 use Rattle.net_core.specs.declared.parts.NetId.{NetId}
 use Rattle.net_core.specs.declared.parts.Cell.{Cell}
 use Rattle.net_core.specs.Netlist.{Netlist, parts_of}
 use Rattle.vlog_parse.specs.ReadTree.{In}
-use Rattle.elab_design.specs.Design.{Bit, Source, Wire, Fixed, Design, IsNetBit}
+use Rattle.elab_design.specs.Design.{Bit, Design, IsNetBit}
 use Rattle.elab_design.specs.DesignCells.{DesignCell, HasCell}
 use Rattle.elab_design.specs.DesignRuns.{clock_bits}
 use Rattle.elab_design.specs.Order.{DesignGroup, group_bits}
-use Rattle.elab_design.specs.Raw.{net_id, pin, out_nets, flat_group, flat_ports}
-use Rattle.elab_design.specs.Names.{cell_name}
-use Rattle.elab_design.specs.Elaborates.{source_net, flat_cell, KeptCells, none, kept, dropped, Elaborates}
+use Rattle.elab_design.specs.Raw.{net_id, flat_group, flat_ports}
+use Rattle.elab_design.specs.Elaborates.{flat_cell, KeptCells, none, kept, dropped, Elaborates}
 use Rattle.elab_design.proofs.Lists.{in_flat_map, same_on}
-use Rattle.elab_design.proofs.GroupLaws.{bit_listed}
+use Rattle.elab_design.proofs.GroupLaws.{bit_listed, listed_bit}
 use Rattle.elab_design.proofs.OrderLaws.{unfolds_has}
 use Rattle.elab_design.proofs.OneLaws.{one_order}
 use Rattle.elab_design.proofs.SoundLaws.{IsSoundDesign}
-use Rattle.elab_design.proofs.KnownLaws.{reads_known, drives_known, clock_known, port_known}
+use Rattle.elab_design.proofs.KnownLaws.{port_known}
+use Rattle.elab_design.proofs.NumberLaws.{same_group, same_cell}
 use Rattle.elab_design.proofs.SettledLaws.{kept_in}
 use Rattle.elab_design.specs.Design.{at_top}
 
@@ -42,37 +41,12 @@ module _ (d : Design) (a b : Netlist) (sound : IsSoundDesign d) (one : Elaborate
   known_number : (x : Bit) → IsNetBit d x → one.number x ≡ other.number x
   known_number x own = same_number x (bit_listed d one.order.top one.order.is_top one.design_groups one.order.all_groups x own)
 
-  same_group : (g : DesignGroup) → In one.design_groups g → flat_group one.number g ≡ flat_group other.number g
-  same_group g at =
-      ap (λ (bits : List NetId). record { name = (flat_group one.number g).name; range = (flat_group one.number g).range; bits = bits })
-      (same_on (λ x. net_id (one.number x)) (λ x. net_id (other.number x)) (group_bits g) (λ x k. ap net_id (same_number x (in_flat_map group_bits one.design_groups g x at k))))
+  group_known : (g : DesignGroup) → In one.design_groups g → (x : Bit) → In (group_bits g) x → IsNetBit d x
+  group_known g at x k = listed_bit d one.order.top one.order.is_top one.design_groups one.order.all_groups x (in_flat_map group_bits one.design_groups g x at k)
 
   groups_same : a.groups ≡ b.groups
   groups_same =
-      one.groups ∙ same_on (flat_group one.number) (flat_group other.number) one.design_groups same_group ∙ ap (map (flat_group other.number)) orders.0 ∙ sym other.groups
-
-  same_pin : (s : Source) → ((x : Bit) → s ≡ Wire x → IsNetBit d x) → pin one.number s ≡ pin other.number s
-  same_pin (Wire x) knows = ap (λ n. pin (λ _. n) (Wire x)) (known_number x (knows x refl))
-  same_pin (Fixed true) knows = refl
-  same_pin (Fixed false) knows = refl
-
-  same_out : (o : Option Bit) → ((x : Bit) → o ≡ Some x → IsNetBit d x) → option_map (λ x. net_id (one.number x)) o ≡ option_map (λ x. net_id (other.number x)) o
-  same_out None knows = refl
-  same_out (Some x) knows = ap (λ n. Some (net_id n)) (known_number x (knows x refl))
-
-  same_clock : (o : Option Source) → ((x : Bit) → o ≡ Some (Wire x) → IsNetBit d x) → option_and_then (source_net one.number) o ≡ option_and_then (source_net other.number) o
-  same_clock None knows = refl
-  same_clock (Some (Wire x)) knows = ap (λ n. Some (net_id n)) (known_number x (knows x refl))
-  same_clock (Some (Fixed v)) knows = refl
-
-  same_cell : (c : DesignCell) → HasCell d c → flat_cell one.number c ≡ flat_cell other.number c
-  same_cell c has =
-      let ins : map (pin one.number) c.ins ≡ map (pin other.number) c.ins =
-      same_on (pin one.number) (pin other.number) c.ins (λ s k. same_pin s (λ x e. reads_known d sound c x has (k.0, k.1 ∙ ap (λ (y : Source). Some y) e))) in
-      let outs : out_nets one.number c.outs ≡ out_nets other.number c.outs =
-      same_on (option_map (λ x. net_id (one.number x))) (option_map (λ x. net_id (other.number x))) c.outs (λ o k. same_out o (λ x e. drives_known d sound c x has (k.0, k.1 ∙ ap (λ (y : Option Bit). Some y) e))) in
-      let clock = same_clock c.clock (λ x e. clock_known d sound c x has e) in
-      λ i. record { kind = c.kind; name = cell_name c; ins = ins i; outs = outs i; clock = clock i }
+      one.groups ∙ same_on (flat_group one.number) (flat_group other.number) one.design_groups (λ g at. same_group d sound one.number other.number known_number g (group_known g at)) ∙ ap (map (flat_group other.number)) orders.0 ∙ sym other.groups
 
   left_has : (c : DesignCell) → In one.left c → HasCell d c
   left_has c at =
@@ -82,7 +56,7 @@ module _ (d : Design) (a b : Netlist) (sound : IsSoundDesign d) (one : Elaborate
   lefts = one_kept d one.design_cells one.left other.left one.leaves (subst (λ (cells : List DesignCell). KeptCells d cells other.left) (sym orders.1) other.leaves)
 
   cells_same : a.cells ≡ b.cells
-  cells_same = one.cells ∙ same_on (flat_cell one.number) (flat_cell other.number) one.left (λ c at. same_cell c (left_has c at)) ∙ ap (map (flat_cell other.number)) lefts ∙ sym other.cells
+  cells_same = one.cells ∙ same_on (flat_cell one.number) (flat_cell other.number) one.left (λ c at. same_cell d sound one.number other.number known_number c (left_has c at)) ∙ ap (map (flat_cell other.number)) lefts ∙ sym other.cells
 
   ports_same : a.ports ≡ b.ports
   ports_same = one.ports ∙ ap flat_ports (same_Some one.order.top other.order.top (sym one.order.is_top ∙ other.order.is_top)) ∙ sym other.ports

@@ -1,9 +1,10 @@
 ghost use Rattle.std.specs.Prelude.{◌≡◌, ◌↔◌, ℕ, Bool, true, List, [], flat_map, slice_get, Some};
 ghost use Rattle.std.specs.Str.{bytes_eq};
 ghost use Rattle.ila_base.specs.declared.refusal.LimitKind.{LimitKind as LimitKindOf};
-ghost use Rattle.net_core.specs.Netlist.{Netlist as NetlistOf, parts_of, is_clock};
+ghost use Rattle.net_core.specs.Netlist.{Netlist as NetlistOf, Parts as PartsOf, parts_of, is_clock};
 ghost use Rattle.net_core.specs.Run.{History, IsOneRun};
 ghost use Rattle.net_core.specs.WellFormed.{IsFlat};
+ghost use Rattle.vlog_lex.specs.declared.token.NetFault.{NetFault as NetFaultOf};
 ghost use Rattle.vlog_parse.specs.ReadTree.{In, IsReadTree};
 ghost use Rattle.vlog_check.specs.Checked.{IsChecked};
 ghost use Rattle.flat_settle.specs.declared.raw.Raw.{Raw as RawOf};
@@ -15,7 +16,7 @@ ghost use Rattle.elab_design.specs.Names.{Carries};
 ghost use Rattle.elab_design.specs.DesignCells.{DesignCell, HasCell};
 ghost use Rattle.elab_design.specs.Order.{DesignGroup, group_bits, FlatOrder};
 ghost use Rattle.elab_design.specs.Raw.{IsPlaced, IsRawOf, place_among};
-ghost use Rattle.elab_design.specs.Limits.{Counts, HasClock, HasLimits, IsDeepest};
+ghost use Rattle.elab_design.specs.Limits.{Counts, HasClock, HasLimits, IsDeepest, IsElabFault};
 ghost use Rattle.elab_design.specs.Elaborates.{Elaborates, HasFlatPort};
 
 /// A design in flat order has exactly the cells and the net bits of the design.
@@ -76,4 +77,11 @@ pub fn ports_of_flat()
 /// A checked design has at most one flat netlist: no other order and no other numbers of net bits.
 pub fn one_flat()
     ensures { (d : Design) (net : NetlistOf) (other : NetlistOf) → IsChecked d.tree d.top → Elaborates d net → Elaborates d other → parts_of net ≡ parts_of other }
+{}
+
+/// A checked design is refused for at most one fault, and for none where its clock is a one-bit input
+/// of the top, its counts are within their limits, and its raw netlist is settled.
+pub fn one_fault()
+    ensures one { (d : Design) (fault : NetFaultOf) (other : NetFaultOf) → IsChecked d.tree d.top → IsElabFault d fault → IsElabFault d other → fault ≡ other }
+    ensures none { (d : Design) (raw : RawOf) (parts : PartsOf) (fault : NetFaultOf) → IsChecked d.tree d.top → HasClock d → HasLimits d → IsRawOf d raw → Settles raw parts → IsElabFault d fault → ⊥ }
 {}

@@ -5,6 +5,6 @@
 mod laws;
 
 pub use laws::{
-    bits_carried, bits_have_numbers, elaborates, has_counts, one_flat, one_order, one_run_carried,
-    order_is_whole, ports_of_flat, raw_is_unfolded,
+    bits_carried, bits_have_numbers, elaborates, has_counts, one_fault, one_flat, one_order,
+    one_run_carried, order_is_whole, ports_of_flat, raw_is_unfolded,
 };
