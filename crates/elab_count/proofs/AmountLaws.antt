@@ -3,7 +3,7 @@ use Rattle.std.proofs.Common.{◌≡◌, ℕ, ◌+◌, ◌*◌, ◌^◌, ◌<◌
 use Rattle.std.specs.Borrow.{Bor}
 use Rattle.std.specs.Option.{option_map_or}
 use Rattle.std.proofs.lemmas.List.{map-append, take_all}
-use Rattle.std.proofs.lemmas.Option.{same_Some}
+use Rattle.std.proofs.lemmas.Option.{get_or_from_slice_get, slice_get-get_or}
 use Rattle.vlog_parse.specs.declared.tree.Module.{Module}
 use Rattle.vlog_parse.specs.declared.tree.Range.{Range}
 use Rattle.vlog_parse.specs.declared.tree.Inst.{Inst}
@@ -68,3 +68,6 @@ at_capped table n are = by (slice_get table n) (λ c is. are n c is)
     by None known = refl
     by (Some None) known = refl
     by (Some (Some c)) known = known c refl
+
+pub read_again : {X : Type 0} (ys : List X) (i : ℕ) (d : X) → i < length ys → get_or ys i d ≡ get_or ys i (get_or ys i d)
+read_again ys i d low = sym (get_or_from_slice_get ys i (get_or ys i d) (get_or ys i d) (slice_get-get_or ys i d low))
