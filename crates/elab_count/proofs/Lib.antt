@@ -1,3 +1,6 @@
 pub mod AmountLaws
-pub mod SortLaws
 pub mod WidthLaws
+pub mod InstanceLaws
+pub mod SortLaws
+pub mod PartLaws
+pub mod ProgressLaws

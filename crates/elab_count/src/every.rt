@@ -1,4 +1,4 @@
-ghost use Rattle.std.specs.Prelude.{◌≡◌, ℕ, ◌-◌, ◌<◌, ◌^◌, ◌↔◌, true, List, length, Some, IfOk};
+ghost use Rattle.std.specs.Prelude.{◌≡◌, ℕ, ◌-◌, ◌<◌, ◌^◌, ◌↔◌, true, List, length, Some, IfOk, OnOk};
 ghost use Rattle.vlog_parse.specs.ReadTree.{IsReadTree};
 ghost use Rattle.vlog_check.specs.Checked.{IsChecked, IsBelow};
 ghost use Rattle.vlog_check.specs.Scope.{module_number};
@@ -6,8 +6,9 @@ ghost use Rattle.net_graph.specs.Graph.{IsCycle, Leads};
 ghost use Rattle.net_graph.specs.Reach.{is_marked};
 ghost use Rattle.elab_scope.specs.Counting.{AreCounts, IsPart};
 ghost use Rattle.elab_scope.specs.Modules.{AreNumbered};
+ghost use Rattle.elab_count.specs.Amounts.{AreCapped};
 ghost use Rattle.elab_count.specs.Instances.{AreInOrder, AreSorted, IsSorting};
-ghost use Rattle.elab_count.specs.Progress.{AreCountedTo};
+ghost use Rattle.elab_count.specs.Progress.{IsOneCounted, AreCountedTo};
 
 use crate::graph::instance_graph;
 use crate::items::count_module;
@@ -69,6 +70,29 @@ fn in_order(alloc: Global, modules: &Modules, wanted: &[bool]) -> Result<Vec<(u3
     Ok(order)
 }
 
+// Counts the module with a number, if it is wanted.
+fn count_one(
+    alloc: Global,
+    modules: &Modules,
+    wanted: bool,
+    k: usize,
+    table: &mut Vec<Option<Count>>,
+) -> Result<(), NoMemory>
+    requires numbered { AreNumbered modules.now }
+    requires within { k < length (modules.now.tree.now).modules }
+    requires size { length table.old.items ≡ length (modules.now.tree.now).modules }
+    requires capped { AreCapped table.old.items }
+    ensures { OnOk result (IsOneCounted modules.now.tree.now wanted k table.old.items table.new.items) }
+{
+    if !wanted {
+        return Ok(());
+    }
+    let m = &modules.tree.modules.as_slice()[k];
+    let count = count_module(alloc, modules, table.as_slice(), m)?;
+    table[k] = Some(count);
+    Ok(())
+}
+
 // The counts of the wanted modules, which are taken in order.
 fn count_wanted(
     alloc: Global,
@@ -82,13 +106,9 @@ fn count_wanted(
     ensures { IfOk result (λ table. AreCountedTo modules.now.tree.now wanted.now order.now (length order.now) table.items) }
 {
     let mut table = vec![in alloc; None; wanted.len()]?;
-    for (_, k) in order {
-        let k = *k as usize;
-        if wanted[k] {
-            let m = &modules.tree.modules.as_slice()[k];
-            let count = count_module(alloc, modules, table.as_slice(), m)?;
-            table[k] = Some(count);
-        }
+    for node in order {
+        let k = node.1 as usize;
+        count_one(alloc, modules, wanted[k], k, &mut table)?;
     }
     Ok(table)
 }
