@@ -1,9 +1,12 @@
 -- The nodes of a graph with their numbers, sorted.
-use Rattle.std.proofs.Common.{◌≡◌, ℕ, zero, suc, ◌+◌, ◌-◌, ◌<◌, ◌≤◌, ◌^◌, Bool, true, false, cond, List, [], ◌∷◌, ◌++◌, length, take, get_or, slice_get, Some, refl, ap, sym, subst, ◌∙◌, arith, true≢false}
+use Rattle.std.proofs.Common.{◌≡◌, ℕ, zero, suc, ◌+◌, ◌-◌, ◌<◌, ◌≤◌, ◌^◌, Bool, true, false, cond, List, [], ◌∷◌, ◌++◌, length, take, get_or, slice_get, Some, refl, ap, sym, subst, ◌∙◌, arith, true≢false, inl, inr, nat_lt, nat_eq}
 use Rattle.std.specs.List.{slice_index, Contains}
-use Rattle.std.specs.List.Sorted.{IsPermutation, IsNonDecreasingBy}
+use Rattle.std.specs.List.Sorted.{IsPermutation, IsNonDecreasingBy, IsSorted}
+use Rattle.std.specs.Ordering.{nat_cmp, is_lt, ordering_then}
+use Rattle.std.specs.declared.cmp.Ordering.TheVariants.{Less, Equal, Greater}
+use Rattle.std.proofs.lemmas.Bool.{cases_lt}
 use Rattle.std.proofs.lemmas.List.{take_more, take_all, length-take}
-use Rattle.std.proofs.lemmas.List.Sorted.{Contains-permutation, IsPermutation-sym}
+use Rattle.std.proofs.lemmas.List.Sorted.{Contains-permutation, IsPermutation-sym, IsNonDecreasingBy-from_all_adjacent}
 use Rattle.std.proofs.lemmas.Option.{slice_get_within, slice_get-get_or, get_or_from_slice_get, same_Some}
 use Rattle.net_graph.specs.declared.graph.Graph.{Graph}
 use Rattle.net_graph.specs.Graph.{Leads, node_count, IsRanked}
@@ -24,7 +27,7 @@ numbered_more ranks k r low is =
 
 of_numbered : (k : ℕ) (ranks : List ℕ) (i r n : ℕ) → slice_get (numbered k ranks) i ≡ Some (r, n) → (n ≡ k + i) × (slice_get ranks i ≡ Some r)
 of_numbered k [] i r n at = absurd (cc at)
-of_numbered k (x ∷ ranks) zero r n at = let e : (x, k) ≡ (r, n) = same_Some (x, k) (r, n) at in (sym (ap (λ (p : ℕ × ℕ). p.1) e), ap (λ (p : ℕ × ℕ). Some p.0) e)
+of_numbered k (x ∷ ranks) zero r n at = let e : (x, k) ≡ (r, n) = same_Some (x, k) (r, n) at in (omega (arith, ap (λ (p : ℕ × ℕ). p.1) e), ap (λ (p : ℕ × ℕ). Some p.0) e)
 of_numbered k (x ∷ ranks) (suc i) r n at = let rest = of_numbered (k + 1) ranks i r n at in (omega (arith, rest.0), rest.1)
 
 at_numbered : (k : ℕ) (ranks : List ℕ) (i r n : ℕ) → n ≡ k + i → slice_get ranks i ≡ Some r → slice_get (numbered k ranks) i ≡ Some (r, n)
@@ -65,3 +68,16 @@ is_sorting graph ranks order size ranked sorted = record {
   behind = λ i j r s a b upto at on leads.
       omega (arith, sorted.rising i j r s a b upto at on, ranked b a leads, get_or_from_slice_get ranks a r 0 (sorted.own i r a at), get_or_from_slice_get ranks b s 0 (sorted.own j s b on));
 }
+
+pub rising_of_sort : (xs : List (ℕ × ℕ)) → IsSorted (λ (a b : ℕ × ℕ). ordering_then (nat_cmp a.0 b.0) (nat_cmp a.1 b.1)) xs → IsNonDecreasingBy (λ (p : ℕ × ℕ). p.0) xs
+rising_of_sort xs sorted = IsNonDecreasingBy-from_all_adjacent (λ (p : ℕ × ℕ). p.0) xs (λ k d low. by (get_or xs k d) (get_or xs (k + 1) d) (sorted k d (omega arith) low))
+  where
+    by : (a b : ℕ × ℕ) → is_lt (ordering_then (nat_cmp b.0 a.0) (nat_cmp b.1 a.1)) ≡ false → a.0 ≤ b.0
+    by a b late = elim (cases_lt b.0 a.0) [
+      | inl low ↦ absurd (true≢false (sym (ap (λ o. is_lt (ordering_then o (nat_cmp b.1 a.1))) (below (nat_lt b.0 a.0) (nat_eq b.0 a.0) (search (arith, low)))) ∙ late))
+      | inr high ↦ omega (arith, high)
+    ]
+      where
+        below : (p q : Bool) → p ≡ true → cond p Less (cond q Equal Greater) ≡ Less
+        below true q is = refl
+        below false q is = absurd (true≢false (sym is))

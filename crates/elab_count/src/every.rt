@@ -52,7 +52,10 @@ fn sorted(alloc: Global, graph: &Graph) -> Result<Vec<(u32, u32)>, NoMemory>
     ensures { IfOk result (λ order. IsSorting graph.now order.items) }
 {
     match ranks(alloc, graph)? {
-        Order::Ranked(ranks) => by_rank(alloc, ranks.as_slice()),
+        Order::Ranked(ranks) => {
+            let order = by_rank(alloc, ranks.as_slice())?;
+            Ok(order)
+        }
         Order::Cycle(_) => Ok(Vec::new(alloc)),
     }
 }
