@@ -1,3 +1,4 @@
 pub mod NetLaws
 pub mod PinLaws
 pub mod RangeLaws
+pub mod TableLaws

@@ -194,7 +194,7 @@ fn push_open(size: Size, out: &mut Items<Option<NetId>>) -> Result<(), NoMemory>
         Size::Four => 4,
         Size::Address | Size::Data => 0,
     };
-    for _ in 0..count {
+    for _k in 0..count {
         out.push(None)?;
     }
     Ok(())

@@ -154,8 +154,15 @@ pub fn push_ports(
 {
     let given = read_given(alloc, &inst.conns)?;
     for (k, port) in inner.ports.as_slice().iter().enumerate() {
-        let e = connected(&given, k, port.name);
-        push_given(alloc, outer, base, next, port, e, cells)?;
+        push_given(
+            alloc,
+            outer,
+            base,
+            next,
+            port,
+            connected(&given, k, port.name),
+            cells,
+        )?;
     }
     Ok(())
 }
