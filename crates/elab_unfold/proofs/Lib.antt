@@ -2,3 +2,5 @@ pub mod NetLaws
 pub mod PinLaws
 pub mod RangeLaws
 pub mod TableLaws
+pub mod LeafLaws
+pub mod PortLaws

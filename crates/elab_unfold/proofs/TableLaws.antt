@@ -1,27 +1,30 @@
 -- What is kept of a module's nets, directions and steps, one by one.
-use Rattle.std.proofs.Common.{◌≡◌, ℕ, zero, suc, ◌+◌, ◌-◌, ◌<◌, ◌≤◌, Bool, true, false, cond, if◌then◌else◌, List, [], ◌∷◌, ◌++◌, length, map, filter, take, get_or, slice_get, Option, Some, None, ◌⊎◌, inl, inr, refl, ap, sym, subst, ◌∙◌, arith, add-zero, zero-add, true≢false, append-nil}
+use Rattle.std.proofs.Common.{◌≡◌, ℕ, zero, suc, ◌+◌, ◌-◌, ◌<◌, ◌≤◌, Bool, true, false, cond, if◌then◌else◌, List, [], ◌∷◌, ◌++◌, length, map, filter, take, get_or, slice_get, Option, Some, None, ◌⊎◌, inl, inr, refl, ap, sym, subst, ◌∙◌, arith, add-zero, zero-add, true≢false, append-nil, length-append, IfSome}
 use Rattle.std.specs.List.{filter_map, cons_option}
 use Rattle.std.specs.Option.{option_map, option_or}
 use Rattle.std.specs.Str.{bytes_eq}
 use Rattle.std.specs.Borrow.{Bor}
 use Rattle.std.proofs.lemmas.List.{map_push, take_more, append_assoc}
-use Rattle.std.proofs.lemmas.Option.{same_Some}
-use Rattle.net_core.proofs.ListLemmas.{slice_get_append}
+use Rattle.std.proofs.lemmas.Option.{same_Some, slice_get-get_or}
+use Rattle.net_core.proofs.ListLemmas.{slice_get_append, slice_get_left, slice_get_right}
 use Rattle.net_core.specs.declared.parts.Group.{Group}
 use Rattle.vlog_parse.specs.declared.tree.Tree.{Tree}
+use Rattle.vlog_parse.specs.declared.tree.Module.{Module}
 use Rattle.vlog_parse.specs.declared.tree.Dir.{Dir}
 use Rattle.vlog_parse.specs.declared.tree.Range.{Range}
 use Rattle.vlog_parse.specs.declared.tree.Item.{Item}
 use Rattle.vlog_parse.specs.declared.tree.Item.TheVariants as items
 use Rattle.vlog_check.specs.declared.names.Port.{Port}
 use Rattle.vlog_check.specs.Scope.{value_of, directed, range_width}
+use Rattle.vlog_check.proofs.LeastLaws.{at_index}
 use Rattle.elab_scope.specs.declared.amounts.Count.{Count}
 use Rattle.elab_scope.specs.Nets.{rows_seen}
 use Rattle.elab_unfold.specs.declared.places.Net.{Net}
 use Rattle.elab_unfold.specs.declared.shape.Step.{Step}
+use Rattle.elab_unfold.specs.declared.shape.Shape.{Shape}
 use Rattle.elab_unfold.specs.Places.{NetRow, row_width, rows_width, net_from, group_from, groups_from}
 use Rattle.elab_unfold.specs.Shapes.{item_of}
-use Rattle.elab_unfold.specs.Steps.{direction_in, directions_of, is_live, IsOf, IsStepOf, AreSteps}
+use Rattle.elab_unfold.specs.Steps.{direction_in, directions_of, is_live, IsOf, IsStepOf, AreSteps, IsReadShape, AreShapes}
 
 -- one more row
 
@@ -136,3 +139,25 @@ steps_more tree table given item old new step steps one is = record {
     last_one : (other : Step) (j : ℕ) → slice_get (step ∷ []) j ≡ Some other → IsOf tree other
     last_one other zero at = subst (IsOf tree) (same_Some step other at) one.kind
     last_one other (suc j) at = absurd (cc at)
+
+-- shapes
+
+pub shapes_step : (tree : Tree) (table : List (Option Count)) (ys : List Module) (k : ℕ) (m : Module) (d : Option Count) (old new : List Shape) (shape : Shape) → ys ≡ tree.modules → k < length ys → m ≡ get_or ys k m → k < length table
+    → length old ≡ k → AreShapes tree table k old → IfSome (get_or table k d) (λ c. IsReadShape tree table m c shape) → new ≡ old ++ shape ∷ [] → (length new ≡ k + 1) × AreShapes tree table (k + 1) new
+shapes_step tree table ys k m d old new shape same low is within long shapes read pushed = (ap length pushed ∙ length-append old (shape ∷ []) ∙ omega (arith, long), each)
+  where
+    order : (n : ℕ) → n < k + 1 → (n < k) ⊎ (n ≡ k)
+    order n below = grind arith
+
+    here : (n : ℕ) (other : Module) (c : Count) → n ≡ k → slice_get tree.modules n ≡ Some other → slice_get table n ≡ Some (Some c) → IsReadShape tree table other c shape
+    here n other c e at there =
+        let own : m ≡ other = same_Some m other (sym (at_index ys tree.modules k m same low is) ∙ ap (slice_get tree.modules) (sym e) ∙ at) in
+        let entry : get_or table k d ≡ Some c = same_Some (get_or table k d) (Some c) (sym (slice_get-get_or table k d within) ∙ ap (slice_get table) (sym e) ∙ there) in
+        let found : IsReadShape tree table m c shape = subst (λ o. IfSome o (λ x. IsReadShape tree table m x shape)) entry read in
+        subst (λ x. IsReadShape tree table x c shape) own found
+
+    each : AreShapes tree table (k + 1) new
+    each n other c below at there = elim (order n below) [
+      | inl early ↦ (let found = shapes n other c early at there in (found.0, ap (λ xs. slice_get xs n) pushed ∙ slice_get_left old (shape ∷ []) n found.0 found.1, found.2))
+      | inr last ↦ (shape, ap (λ xs. slice_get xs n) pushed ∙ slice_get_right old (shape ∷ []) n 0 shape (omega (arith, last, long)) refl, here n other c last at there)
+    ]

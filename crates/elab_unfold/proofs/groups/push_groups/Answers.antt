@@ -1,10 +1,10 @@
-use Rattle.std.proofs.Common.{◌≡◌, ◌+◌, ◌<◌, ◌≤◌, ◌^◌, ◌∙◌, ap, sym, take, arith}
+use Rattle.std.proofs.Common.{[], None, ◌≡◌, ◌+◌, ◌<◌, ◌≤◌, ◌^◌, ◌∙◌, ap, sym, take, arith}
 use Rattle.elab_unfold.proofs.TableLaws.{group_step, width_step, width_room}
 use Rattle.elab_unfold.proofs.groups.push_groups.Goals as goal
 
 pub push_group-requires : goal.push_group-requires
 push_group-requires c =
-    let room = width_room c.args.order.now c.loop-row.row-index _ c.args.state.now.nets c.loop-row.state.nets c.loop-row-test.true c.loop-row.invariant.nets in
+    let room = width_room c.args.order.now c.loop-row.row-index (record { ref_ptr = (0, 0); now = [] }, None) c.args.state.now.nets c.loop-row.state.nets c.loop-row-test.true c.loop-row.invariant.nets in
     omega (arith, room, c.requires)
 
 pub loop-row-preserved : goal.loop-row-preserved

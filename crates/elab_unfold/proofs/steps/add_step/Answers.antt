@@ -1,5 +1,4 @@
-use Rattle.std.proofs.Common.{ap, ◌∙◌, sym}
-use Rattle.elab_unfold.proofs.TableLaws.{steps_nothing, steps_more}
+use Rattle.elab_unfold.proofs.TableLaws.{steps_more}
 use Rattle.elab_unfold.proofs.steps.add_step.Goals as goal
 
 pub returns-in_ok-push-in-Some : goal.returns-in_ok-push-in-Some
