@@ -1,7 +1,7 @@
 -- The parameters and pins of instances of cells.
 use Rattle.std.proofs.Common.{◌≡◌, ℕ, zero, suc, ◌+◌, ◌<◌, ◌≤◌, ◌^◌, nat_lt, ◌==◌, Bool, true, false, cond, if◌then◌else◌, List, [], ◌∷◌, ◌++◌, length, map, filter, take, drop, get_or, slice_get, Option, Some, None, is_some, IfSome, refl, ap, sym, subst, ◌∙◌, arith, add-one, append-nil, true≢false, codes}
 use Rattle.std.specs.List.{flat_map, filter_map}
-use Rattle.std.specs.Option.{option_map, option_and_then, option_copied, unwrap_or}
+use Rattle.std.specs.Option.{option_map, option_or, option_and_then, option_copied, unwrap_or}
 use Rattle.std.specs.Borrow.{Bor}
 use Rattle.std.specs.Str.{bytes_eq}
 use Rattle.std.proofs.lemmas.Bool.Decides.{nat_tests}
@@ -25,6 +25,8 @@ use Rattle.vlog_check.specs.Scope.{value_of, connected, is_sound}
 use Rattle.net_core.specs.declared.kind.CellKind.{CellKind}
 use Rattle.net_core.specs.declared.kind.CellKind.TheVariants as kinds
 use Rattle.elab_design.specs.DesignCells.{parameter, init_of, cell_kind}
+use Rattle.vlog_check.proofs.TableLaws.{lookup-append}
+use Rattle.vlog_check.proofs.LeastLaws.{take_step}
 use Rattle.elab_design.proofs.Lists.{in_none, in_filter_map}
 use Rattle.elab_design.proofs.SoundLaws.{and_then_some}
 use Rattle.net_core.specs.declared.parts.Pin.{Pin}
@@ -138,3 +140,23 @@ outputs_step number f p xs i d old new low was is =
     is ∙ ap (λ ys. ys ++ out_nets number (if p (pin_row (get_or xs i d)) then f (pin_row (get_or xs i d)) else [])) was
     ∙ sym (map-append (option_map (λ b. net_id (number b))) (flat_map f (filter p (map pin_row (take i xs)))) (if p (pin_row (get_or xs i d)) then f (pin_row (get_or xs i d)) else []))
     ∙ ap (out_nets number) (sym (filtered_step f p xs i d low))
+
+-- Connections by name, one by one
+
+pub named_step : (conns : List (List ℕ × Option Expr)) (i : ℕ) (x : List ℕ × Option Expr) (key : List ℕ) (v : Option (Bor Expr)) (old new : List (List ℕ × Option (Bor Expr))) → i < length conns → x ≡ get_or conns i x → key ≡ x.0 → option_copied v ≡ x.1
+    → ((name : List ℕ) → option_map option_copied (value_of old name) ≡ value_of (take i conns) name) → ((other : List ℕ) → value_of new other ≡ option_or (value_of old other) (value_of ((key, v) ∷ []) other))
+    → (name : List ℕ) → option_map option_copied (value_of new name) ≡ value_of (take (i + 1) conns) name
+named_step conns i x key v old new low is own same said put name =
+    ap (option_map option_copied) (put name) ∙ both (value_of old name) (value_of ((key, v) ∷ []) name)
+    ∙ ap (λ o. option_or o (option_map option_copied (value_of ((key, v) ∷ []) name))) (said name)
+    ∙ ap (option_or (value_of (take i conns) name)) (ap (λ k. option_map option_copied (value_of ((k, v) ∷ []) name)) own ∙ one (bytes_eq name x.0))
+    ∙ sym (lookup-append (bytes_eq name) (take i conns) (x ∷ []))
+    ∙ ap (λ es. value_of es name) (take_step conns conns i x refl low is)
+  where
+    both : (a b : Option (Option (Bor Expr))) → option_map option_copied (option_or a b) ≡ option_or (option_map option_copied a) (option_map option_copied b)
+    both None b = refl
+    both (Some y) b = refl
+
+    one : (b : Bool) → option_map option_copied (cond b (Some v) None) ≡ cond b (Some x.1) None
+    one true = ap (λ o. Some o) same
+    one false = refl

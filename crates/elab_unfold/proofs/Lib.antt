@@ -4,3 +4,4 @@ pub mod RangeLaws
 pub mod TableLaws
 pub mod LeafLaws
 pub mod PortLaws
+pub mod DeepLaws

@@ -5,7 +5,7 @@ use Rattle.elab_design.specs.Design.{Path, Bit}
 use Rattle.elab_design.specs.Order.{port_links}
 use Rattle.elab_design.specs.Raw.{raw_cell}
 use Rattle.elab_unfold.specs.Places.{Fits}
-use Rattle.elab_unfold.proofs.ports.push_ports.Given as goal
+use Rattle.elab_unfold.proofs.ports.push_all.Given as goal
 
 abbrev pub invariant-loop-k : goal.invariant-loop-k
 invariant-loop-k l = (path : Path) (number : Bit → ℕ) → Fits (l.outer.holder.now) path l.base number → Fits (l.inner.places.holder.now) (l.inst.name ∷ path) l.next number
