@@ -38,19 +38,56 @@ name_at prefix bytes name path whole at own is = is ∙ ap (λ n. prefix ++ n) o
 
 -- Items that unfold to nothing
 
+groups_swap : (d : Design) (path : Path) (item : Item) (xs ys : List Item) (found : List order.DesignGroup) → order.InnerGroups d path (item ∷ xs) found
+    → ((inner : List order.DesignGroup) → order.InnerGroups d path xs inner → order.InnerGroups d path ys inner) → order.InnerGroups d path (item ∷ ys) found
+groups_swap d path _ _ ys _ (order.plain _ item more groups none h) f = order.plain path item ys groups none (f groups h)
+groups_swap d path _ _ ys _ (order.inside _ n inst more inner groups kind below h) f = order.inside path n inst ys inner groups kind below (f groups h)
+
+cells_swap : (d : Design) (m : Module) (path : Path) (item : Item) (xs ys : List Item) (found : List DesignCell) → order.Unfolds d m path (item ∷ xs) found
+    → ((cells : List DesignCell) → order.Unfolds d m path xs cells → order.Unfolds d m path ys cells) → order.Unfolds d m path (item ∷ ys) found
+cells_swap d m path _ _ ys _ (order.own _ _ item more cells none h) f = order.own m path item ys cells none (f cells h)
+cells_swap d m path _ _ ys _ (order.inside _ n _ inst more inner cells kind below h) f = order.inside m n path inst ys inner cells kind below (f cells h)
+
 module _ (d : Design) (m : Module) (live : Item → Bool) where
   groups_by : (path : Path) (item : Item) (its : List Item) (found : List order.DesignGroup) (b : Bool) → live item ≡ b → (live item ≡ false → IsDead d m item)
       → ((inner : List order.DesignGroup) → order.InnerGroups d path (filter live its) inner → order.InnerGroups d path its inner) → order.InnerGroups d path (cond b (item ∷ filter live its) (filter live its)) found → order.InnerGroups d path (item ∷ its) found
   groups_by path item its found false is dead rest h = (dead is).groups path its found (rest found h)
-  groups_by path item its found true is dead rest h = again its rest h
-    where
-      again : (its : List Item) → ((inner : List order.DesignGroup) → order.InnerGroups d path (filter live its) inner → order.InnerGroups d path its inner) → order.InnerGroups d path (item ∷ filter live its) found → order.InnerGroups d path (item ∷ its) found
-      again its rest h = ?
+  groups_by path item its found true is dead rest h = groups_swap d path item (filter live its) its found h rest
 
   pub live_groups : (path : Path) (its : List Item) (found : List order.DesignGroup) → ((item : Item) → In its item → live item ≡ false → IsDead d m item) → order.InnerGroups d path (filter live its) found → order.InnerGroups d path its found
   live_groups path [] found dead h = h
   live_groups path (item ∷ its) found dead h =
       groups_by path item its found (live item) refl (dead item (0, refl)) (λ inner g. live_groups path its inner (λ x at. dead x (suc at.0, at.1)) g) h
+
+  cells_by : (path : Path) (item : Item) (its : List Item) (found : List DesignCell) (b : Bool) → live item ≡ b → (live item ≡ false → IsDead d m item)
+      → ((cells : List DesignCell) → order.Unfolds d m path (filter live its) cells → order.Unfolds d m path its cells) → order.Unfolds d m path (cond b (item ∷ filter live its) (filter live its)) found → order.Unfolds d m path (item ∷ its) found
+  cells_by path item its found false is dead rest h = (dead is).cells path its found (rest found h)
+  cells_by path item its found true is dead rest h = cells_swap d m path item (filter live its) its found h rest
+
+  pub live_cells : (path : Path) (its : List Item) (found : List DesignCell) → ((item : Item) → In its item → live item ≡ false → IsDead d m item) → order.Unfolds d m path (filter live its) found → order.Unfolds d m path its found
+  live_cells path [] found dead h = h
+  live_cells path (item ∷ its) found dead h =
+      cells_by path item its found (live item) refl (dead item (0, refl)) (λ cells g. live_cells path its cells (λ x at. dead x (suc at.0, at.1)) g) h
+
+-- A module's own nets were added, and its items are left
+
+pub taken_none : (d : Design) (m : Module) (path : Path) (live : Item → Bool) (more : List Item) (old now : State) → more ≡ filter live m.items → ((item : Item) → In m.items item → live item ≡ false → IsDead d m item)
+    → old.prefix.items ≡ prefix_of path → now.cells ≡ old.cells → now.nets ≡ old.nets + rows_width (named_nets m) → now.groups ≡ old.groups ++ groups_from old.prefix.items old.nets (named_nets m) → Taken d m path more old now
+taken_none d m path live more old now is dead at cells nets groups = record {
+  groups = order.own_groups m path;
+  cells = [];
+  rest_groups = λ inner h. record { inner = inner; below = live_groups d m live path m.items inner dead (subst (λ its. order.InnerGroups d path its inner) is h); all = refl };
+  rest_cells = λ left h. live_cells d m live path m.items left dead (subst (λ its. order.Unfolds d m path its left) is h);
+  inner = [];
+  owns = sym (append-nil (order.own_groups m path));
+  added = record {
+    nets = nets ∙ ap (λ n. old.nets + n) (sym (length-row_bits path (named_nets m)) ∙ ap length (sym (own_bits_are m path)));
+    new_groups = λ number rise.
+    groups ∙ ap (λ p. old.groups ++ groups_from p old.nets (named_nets m)) at
+    ∙ ap (λ gs. old.groups ++ gs) (groups_are path number (named_nets m) old.nets (subst (Numbers number old.nets) (own_bits_are m path) rise) ∙ ap (map (flat_group number)) (sym (own_groups_are m path)));
+    new_cells = λ number rise. cells ∙ sym (append-nil old.cells);
+  };
+}
 
 -- The bits of a module's own nets come first
 

@@ -5,3 +5,4 @@ pub mod TableLaws
 pub mod LeafLaws
 pub mod PortLaws
 pub mod DeepLaws
+pub mod ShapeLaws
