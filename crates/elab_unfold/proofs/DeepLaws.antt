@@ -179,3 +179,17 @@ module _ (d : Design) (m : Module) (path : Path) (more : List Item) (old now new
     all_cells = subst (order.Unfolds d m path m.items) (append-nil t.cells) (t.rest_cells [] (order.over m path));
     added = t.added;
   }
+
+-- the same with another prefix
+pub added_as : (d : Design) (m : Module) (path : Path) (old now new : State) → Adds d m path old now → new.nets ≡ now.nets → new.groups ≡ now.groups → new.cells ≡ now.cells → Adds d m path old new
+added_as d m path old now new a nets groups cells = record {
+  groups = a.groups;
+  cells = a.cells;
+  all_groups = a.all_groups;
+  all_cells = a.all_cells;
+  added = record {
+    nets = nets ∙ a.added.nets;
+    new_groups = λ number rise. groups ∙ a.added.new_groups number rise;
+    new_cells = λ number rise. cells ∙ a.added.new_cells number rise;
+  };
+}
