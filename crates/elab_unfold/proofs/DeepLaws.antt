@@ -83,8 +83,8 @@ taken_none d m path live more old now is dead at cells nets groups = record {
   added = record {
     nets = nets ∙ ap (λ n. old.nets + n) (sym (length-row_bits path (named_nets m)) ∙ ap length (sym (own_bits_are m path)));
     new_groups = λ number rise.
-    groups ∙ ap (λ p. old.groups ++ groups_from p old.nets (named_nets m)) at
-    ∙ ap (λ gs. old.groups ++ gs) (groups_are path number (named_nets m) old.nets (subst (Numbers number old.nets) (own_bits_are m path) rise) ∙ ap (map (flat_group number)) (sym (own_groups_are m path)));
+        groups ∙ ap (λ p. old.groups ++ groups_from p old.nets (named_nets m)) at
+        ∙ ap (λ gs. old.groups ++ gs) (groups_are path number (named_nets m) old.nets (subst (Numbers number old.nets) (own_bits_are m path) rise) ∙ ap (map (flat_group number)) (sym (own_groups_are m path)));
     new_cells = λ number rise. cells ∙ sym (append-nil old.cells);
   };
 }
@@ -113,10 +113,10 @@ module _ (d : Design) (m : Module) (path : Path) (more : List Item) (old now new
       nets = adds.nets ∙ t.added.nets;
       new_groups = λ number rise. adds.groups ∙ t.added.new_groups number rise;
       new_cells = λ number rise.
-      adds.added path number at (fits_first m path old.nets number t.groups t.inner t.owns rise)
-      ∙ ap (λ cells. cells ++ map (raw_cell number) (order.own_cells d m path item)) (t.added.new_cells number rise)
-      ∙ append_assoc old.cells (map (raw_cell number) t.cells) (map (raw_cell number) (order.own_cells d m path item))
-      ∙ ap (λ cells. old.cells ++ cells) (sym (map-append (raw_cell number) t.cells (order.own_cells d m path item)));
+          adds.added path number at (fits_first m path old.nets number t.groups t.inner t.owns rise)
+          ∙ ap (λ cells. cells ++ map (raw_cell number) (order.own_cells d m path item)) (t.added.new_cells number rise)
+          ∙ append_assoc old.cells (map (raw_cell number) t.cells) (map (raw_cell number) (order.own_cells d m path item))
+          ∙ ap (λ cells. old.cells ++ cells) (sym (map-append (raw_cell number) t.cells (order.own_cells d m path item)));
     };
   }
 
@@ -128,28 +128,28 @@ module _ (d : Design) (m : Module) (path : Path) (more : List Item) (old now new
     groups = t.groups ++ a.groups;
     cells = t.cells ++ (order.instance_links m path inst n ++ a.cells);
     rest_groups = λ inner h.
-    subst (order.GroupsOf d m path) (sym (append_assoc t.groups a.groups inner))
-    (t.rest_groups (a.groups ++ inner) (subst (λ gs. order.InnerGroups d path (items.Inst inst ∷ more) (gs ++ inner)) (sym a.all_groups.all) (order.inside path n inst more a.all_groups.inner inner kind a.all_groups.below h)));
+        subst (order.GroupsOf d m path) (sym (append_assoc t.groups a.groups inner))
+        (t.rest_groups (a.groups ++ inner) (subst (λ gs. order.InnerGroups d path (items.Inst inst ∷ more) (gs ++ inner)) (sym a.all_groups.all) (order.inside path n inst more a.all_groups.inner inner kind a.all_groups.below h)));
     rest_cells = λ left h.
-    subst (order.Unfolds d m path m.items) (ap (λ cs. t.cells ++ cs) (sym (append_assoc (order.instance_links m path inst n) a.cells left)) ∙ sym (append_assoc t.cells (order.instance_links m path inst n ++ a.cells) left))
-    (t.rest_cells (order.instance_links m path inst n ++ (a.cells ++ left)) (order.inside m n path inst more a.cells left kind a.all_cells h));
+        subst (order.Unfolds d m path m.items) (ap (λ cs. t.cells ++ cs) (sym (append_assoc (order.instance_links m path inst n) a.cells left)) ∙ sym (append_assoc t.cells (order.instance_links m path inst n ++ a.cells) left))
+        (t.rest_cells (order.instance_links m path inst n ++ (a.cells ++ left)) (order.inside m n path inst more a.cells left kind a.all_cells h));
     inner = t.inner ++ a.groups;
     owns = ap (λ gs. gs ++ a.groups) t.owns ∙ append_assoc (order.own_groups m path) t.inner a.groups;
     added = record {
       nets = a.added.nets ∙ ap (λ n. n + length (flat_map order.group_bits a.groups)) (nets ∙ t.added.nets) ∙ omega (arith, long);
       new_groups = λ number rise.
-      a.added.new_groups number (right number rise)
-      ∙ ap (λ gs. gs ++ map (flat_group number) a.groups) (groups ∙ t.added.new_groups number (left number rise))
-      ∙ append_assoc old.groups (map (flat_group number) t.groups) (map (flat_group number) a.groups)
-      ∙ ap (λ gs. old.groups ++ gs) (sym (map-append (flat_group number) t.groups a.groups));
+          a.added.new_groups number (right number rise)
+          ∙ ap (λ gs. gs ++ map (flat_group number) a.groups) (groups ∙ t.added.new_groups number (left number rise))
+          ∙ append_assoc old.groups (map (flat_group number) t.groups) (map (flat_group number) a.groups)
+          ∙ ap (λ gs. old.groups ++ gs) (sym (map-append (flat_group number) t.groups a.groups));
       new_cells = λ number rise.
-      a.added.new_cells number (right number rise)
-      ∙ ap (λ cs. cs ++ map (raw_cell number) a.cells)
-      (cells number (fits_first m path old.nets number t.groups t.inner t.owns (left number rise)) (subst (λ k. Fits n (inst.name ∷ path) k number) nets (fits_first n (inst.name ∷ path) border.nets number a.groups a.all_groups.inner a.all_groups.all (right number rise)))
-      ∙ ap (λ cs. cs ++ map (raw_cell number) (order.instance_links m path inst n)) (t.added.new_cells number (left number rise)))
-      ∙ join old.cells (map (raw_cell number) t.cells) (map (raw_cell number) (order.instance_links m path inst n)) (map (raw_cell number) a.cells)
-      ∙ ap (λ cs. old.cells ++ (map (raw_cell number) t.cells ++ cs)) (sym (map-append (raw_cell number) (order.instance_links m path inst n) a.cells))
-      ∙ ap (λ cs. old.cells ++ cs) (sym (map-append (raw_cell number) t.cells (order.instance_links m path inst n ++ a.cells)));
+          a.added.new_cells number (right number rise)
+          ∙ ap (λ cs. cs ++ map (raw_cell number) a.cells)
+          (cells number (fits_first m path old.nets number t.groups t.inner t.owns (left number rise)) (subst (λ k. Fits n (inst.name ∷ path) k number) nets (fits_first n (inst.name ∷ path) border.nets number a.groups a.all_groups.inner a.all_groups.all (right number rise)))
+          ∙ ap (λ cs. cs ++ map (raw_cell number) (order.instance_links m path inst n)) (t.added.new_cells number (left number rise)))
+          ∙ join old.cells (map (raw_cell number) t.cells) (map (raw_cell number) (order.instance_links m path inst n)) (map (raw_cell number) a.cells)
+          ∙ ap (λ cs. old.cells ++ (map (raw_cell number) t.cells ++ cs)) (sym (map-append (raw_cell number) (order.instance_links m path inst n) a.cells))
+          ∙ ap (λ cs. old.cells ++ cs) (sym (map-append (raw_cell number) t.cells (order.instance_links m path inst n ++ a.cells)));
     };
   }
     where

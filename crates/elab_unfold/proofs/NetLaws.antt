@@ -160,8 +160,8 @@ numbers_are number (b ∷ bits) base rise =
 pub fits_own : (m : Module) (path : Path) (base : ℕ) (number : Bit → ℕ) → Numbers number base (row_bits path (named_nets m)) → Fits m path base number
 fits_own m path base number rise = record {
   at = λ name net k i found at.
-  let place = bit_at_place path (named_nets m) 0 name net k i found at in
-  rise (place.0 + k) (bit_of path name i) place.2 ∙ omega (arith, place.1);
+      let place = bit_at_place path (named_nets m) 0 name net k i found at in
+      rise (place.0 + k) (bit_of path name i) place.2 ∙ omega (arith, place.1);
 }
 
 pub numbers_of_net : (m : Module) (path : Path) (base : ℕ) (number : Bit → ℕ) (name : List ℕ) (net : Net) → Fits m path base number → net_of m name ≡ Some net → Numbers number (base + net.first) (map (bit_of path name) (indices net.range))

@@ -1,8 +1,8 @@
 -- What is kept of the modules of a plan.
-use Rattle.std.proofs.Common.{◌≡◌, ℕ, ◌+◌, ◌<◌, ◌≤◌, List, [], ◌∷◌, ◌++◌, length, map, take, drop, get_or, slice_get, Option, Some, None, refl, ap, sym, subst, ◌∙◌, suc, drop-cons, add-one, arith}
+use Rattle.std.proofs.Common.{◌≡◌, ℕ, ◌+◌, ◌<◌, ◌≤◌, List, [], ◌∷◌, ◌++◌, length, map, take, drop, get_or, slice_get, Option, Some, None, refl, ap, sym, subst, ◌∙◌, zero, suc, drop-cons, add-one, arith}
 use Rattle.std.specs.Option.{option_map_or}
 use Rattle.std.specs.Borrow.{Bor}
-use Rattle.std.proofs.lemmas.List.{take_all}
+use Rattle.std.proofs.lemmas.List.{take_all, take-append-le}
 use Rattle.std.proofs.lemmas.Option.{same_Some, slice_get-get_or, slice_get_within}
 use Rattle.vlog_parse.specs.declared.tree.Module.{Module}
 use Rattle.vlog_parse.specs.declared.tree.Item.{Item}
@@ -73,4 +73,13 @@ pub kind_known : (plan : Plan) (m holder : Module) (depth number : ℕ) (inst : 
 kind_known plan m holder depth number inst inside at = inside.kind ∙ ap (λ x. Some (OfModule x)) (same_Some inside.inner holder (sym inside.at ∙ at))
 
 pub truncated : (whole old more now : List ℕ) (end : ℕ) → end ≡ length old → whole ≡ old ++ more → now ≡ take end whole → now ≡ old
-truncated whole old more now end long is cut = cut ∙ ap (λ n. take n whole) long ∙ ap (take (length old)) is ∙ take-append-le (omega arith) ∙ take_all (length old) old (omega arith)
+truncated whole old more now end long is cut = cut ∙ ap (λ n. take n whole) long ∙ ap (take (length old)) is ∙ take-append-le (length old) old more (omega arith) ∙ take_all (length old) old (omega arith)
+
+drop_end : (xs : List Step) (k : ℕ) → length xs ≤ k → drop k xs ≡ []
+drop_end [] zero end = refl
+drop_end [] (suc k) end = refl
+drop_end (x ∷ xs) zero end = absurd (omega (arith, end))
+drop_end (x ∷ xs) (suc k) end = drop_end xs k (omega (arith, end))
+
+pub items_end : (ys steps : List Step) (k : ℕ) → ys ≡ steps → length ys ≤ k → map item_of (drop k steps) ≡ []
+items_end ys steps k same end = ap (map item_of) (drop_end steps k (omega (arith, end, ap length same)))

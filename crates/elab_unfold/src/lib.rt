@@ -16,4 +16,8 @@ mod state;
 mod steps;
 mod whole;
 
-pub use whole::unfold;
+pub use places::{Net, Places};
+pub use plan::read_shapes;
+pub use shape::{Own, Plan, PortNet, Shape, Step};
+pub use state::State;
+pub use whole::unfold_plan;

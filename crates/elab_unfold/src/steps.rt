@@ -21,11 +21,7 @@ fn has_some(counts: &[Option<Count>], number: usize) -> bool
     }
 }
 
-fn step_of_inst<'a>(
-    modules: &Modules,
-    counts: &[Option<Count>],
-    inst: &'a Inst,
-) -> Option<Step<'a>>
+fn step_of_inst<'a>(modules: &Modules, counts: &[Option<Count>], inst: &'a Inst) -> Option<Step<'a>>
     requires { AreNumbered modules.now }
     ensures { MatchOption result (is_live modules.now.tree.now counts.now (items.Inst inst.now) ≡ false) (IsStepOf modules.now.tree.now counts.now (items.Inst inst.now)) }
 {
