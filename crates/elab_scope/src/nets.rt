@@ -80,8 +80,8 @@ impl<'a> Reading<'a> {
                 Ok(())
             }
             Item::Assign(_, _) => Ok(()),
-        Item::Gate(_) => Ok(()),
-        Item::Inst(_) => Ok(()),
+            Item::Gate(_) => Ok(()),
+            Item::Inst(_) => Ok(()),
         }
     }
 }

@@ -1,11 +1,10 @@
 -- Modules in one another, item by item.
-use Rattle.std.proofs.Common.{◌≡◌, ℕ, zero, suc, ◌+◌, ◌<◌, ◌≤◌, ◌^◌, Bool, true, false, cond, List, [], ◌∷◌, ◌++◌, length, map, filter, take, drop, get_or, slice_get, Option, Some, None, refl, ap, sym, subst, ◌∙◌, arith, append-nil, zero-add, add-zero, length-append}
+use Rattle.std.proofs.Common.{◌≡◌, ℕ, suc, ◌+◌, Bool, true, false, cond, List, [], ◌∷◌, ◌++◌, length, map, filter, Option, Some, None, refl, ap, sym, subst, ◌∙◌, arith, append-nil, length-append}
 use Rattle.std.specs.List.{flat_map}
 use Rattle.std.specs.Option.{option_map}
 use Rattle.std.proofs.lemmas.List.{map-append, append_assoc}
 use Rattle.std.proofs.lemmas.List.Concat.{flat_map-append}
 use Rattle.flat_settle.specs.declared.raw.RawCell.{RawCell}
-use Rattle.net_core.specs.declared.parts.Group.{Group}
 use Rattle.vlog_parse.specs.declared.tree.Module.{Module}
 use Rattle.vlog_parse.specs.declared.tree.Item.{Item}
 use Rattle.vlog_parse.specs.declared.tree.Item.TheVariants as items
@@ -21,8 +20,8 @@ use Rattle.elab_scope.specs.Nets.{named_nets}
 use Rattle.elab_unfold.specs.declared.state.State.{State}
 use Rattle.elab_unfold.specs.Places.{Fits, prefix_of, rows_width, groups_from}
 use Rattle.elab_unfold.specs.Shapes.{IsDead}
-use Rattle.elab_unfold.specs.Adding.{Numbers, Added, Adds, Taken, AddsCells}
-use Rattle.elab_unfold.proofs.NetLaws.{row_bits, length-row_bits, own_bits_are, own_groups_are, numbers_left, numbers_right, fits_own, name_behind_prefix, groups_are, prefix_into}
+use Rattle.elab_unfold.specs.Adding.{Numbers, Adds, Taken, AddsCells}
+use Rattle.elab_unfold.proofs.NetLaws.{length-row_bits, own_bits_are, own_groups_are, numbers_left, numbers_right, fits_own, name_behind_prefix, groups_are}
 
 -- Names
 

@@ -1,6 +1,6 @@
 -- The parameters and pins of instances of cells.
-use Rattle.std.proofs.Common.{◌≡◌, ℕ, zero, suc, ◌+◌, ◌<◌, ◌≤◌, ◌^◌, nat_lt, ◌==◌, Bool, true, false, cond, if◌then◌else◌, List, [], ◌∷◌, ◌++◌, length, map, filter, take, drop, get_or, slice_get, Option, Some, None, is_some, IfSome, refl, ap, sym, subst, ◌∙◌, arith, add-one, append-nil, true≢false, codes}
-use Rattle.std.specs.List.{flat_map, filter_map}
+use Rattle.std.proofs.Common.{◌≡◌, ℕ, suc, ◌+◌, ◌<◌, ◌^◌, nat_lt, ◌==◌, Bool, true, false, cond, if◌then◌else◌, List, [], ◌∷◌, ◌++◌, length, map, filter, take, drop, get_or, Option, Some, None, IfSome, refl, ap, sym, ◌∙◌, arith, add-one, append-nil, codes}
+use Rattle.std.specs.List.{flat_map}
 use Rattle.std.specs.Option.{option_map, option_or, option_and_then, option_copied, unwrap_or}
 use Rattle.std.specs.Borrow.{Bor}
 use Rattle.std.specs.Str.{bytes_eq}
@@ -22,12 +22,11 @@ use Rattle.vlog_check.specs.declared.primitive.Primitive.TheVariants.{Lut1, Lut2
 use Rattle.vlog_check.specs.Cells.{PinRow, pin_row, number_in}
 use Rattle.vlog_check.specs.CellRows.{kind_with}
 use Rattle.vlog_check.specs.Scope.{value_of, connected, is_sound}
-use Rattle.net_core.specs.declared.kind.CellKind.{CellKind}
 use Rattle.net_core.specs.declared.kind.CellKind.TheVariants as kinds
 use Rattle.elab_design.specs.DesignCells.{parameter, init_of, cell_kind}
 use Rattle.vlog_check.proofs.TableLaws.{lookup-append}
 use Rattle.vlog_check.proofs.LeastLaws.{take_step}
-use Rattle.elab_design.proofs.Lists.{in_none, in_filter_map}
+use Rattle.elab_design.proofs.Lists.{in_filter_map}
 use Rattle.elab_design.proofs.SoundLaws.{and_then_some}
 use Rattle.net_core.specs.declared.parts.Pin.{Pin}
 use Rattle.net_core.specs.declared.parts.NetId.{NetId}

@@ -1,14 +1,13 @@
 -- The pins of expressions, links and gates, under numbers that fit the nets of their module.
-use Rattle.std.proofs.Common.{◌≡◌, ℕ, zero, suc, ◌+◌, ◌-◌, ◌<◌, ◌≤◌, Bool, true, false, cond, if◌then◌else◌, List, [], ◌∷◌, ◌++◌, length, map, take, drop, get_or, slice_get, Option, Some, None, ◌⊎◌, inl, inr, refl, ap, sym, subst, ◌∙◌, arith, zero-add, add-zero, append-nil, add-one, min, true≢false}
+use Rattle.std.proofs.Common.{◌≡◌, ℕ, zero, suc, ◌+◌, ◌-◌, ◌<◌, ◌≤◌, Bool, true, false, if◌then◌else◌, List, [], ◌∷◌, ◌++◌, length, map, take, drop, get_or, slice_get, Option, Some, None, ◌⊎◌, inl, inr, refl, ap, sym, ◌∙◌, arith, append-nil, add-one, min}
 use Rattle.std.specs.List.{flat_map, range_with_len}
 use Rattle.std.specs.Option.{option_map, option_map_or}
-use Rattle.std.proofs.lemmas.List.{length-map, map-append, take-map, drop-map, take_all, append_assoc}
+use Rattle.std.proofs.lemmas.List.{length-map, take-map, drop-map, take_all, append_assoc}
 use Rattle.std.proofs.lemmas.List.Concat.{flat_map-append}
 use Rattle.std.proofs.lemmas.Option.{same_Some, slice_get-map}
 use Rattle.net_core.specs.declared.parts.Pin.{Pin}
 use Rattle.net_core.specs.declared.parts.NetId.{NetId}
 use Rattle.net_core.specs.declared.kind.CellKind.{CellKind}
-use Rattle.net_core.specs.WellFormed.{range_indices}
 use Rattle.flat_settle.specs.declared.raw.RawCell.{RawCell}
 use Rattle.ila_base.specs.declared.place.Place.{Place}
 use Rattle.ila_base.specs.declared.place.Word.{Word}
@@ -16,10 +15,9 @@ use Rattle.vlog_parse.specs.declared.tree.Expr.{Expr, fold-roll-Expr}
 use Rattle.vlog_parse.specs.declared.tree.Expr.TheVariants.{Concat, Const, rolls-Const}
 use Rattle.vlog_parse.specs.declared.tree.Expr.TheOpen as layer
 use Rattle.vlog_parse.specs.declared.tree.Module.{Module}
-use Rattle.vlog_parse.specs.declared.tree.Range.{Range}
 use Rattle.vlog_parse.specs.declared.tree.GateKind.{GateKind}
 use Rattle.vlog_parse.specs.Leaves.{Leaf, Fixed as constant, leaves, leaves_at}
-use Rattle.vlog_check.specs.Scope.{range_of, range_width}
+use Rattle.vlog_check.specs.Scope.{range_width}
 use Rattle.vlog_check.proofs.ReadingLaws.{leaves-Concat}
 use Rattle.elab_design.specs.Design.{Path, Bit, bit_of, wire, Source, Wire, Fixed, indices, net_bits, leaf_sources, sources, word_bits}
 use Rattle.elab_design.specs.DesignCells as design

@@ -1,19 +1,18 @@
 -- The links of an instance's ports, port by port.
-use Rattle.std.proofs.Common.{◌≡◌, ℕ, zero, suc, ◌+◌, ◌<◌, ◌≤◌, ◌^◌, Bool, true, false, if◌then◌else◌, List, [], ◌∷◌, ◌++◌, length, map, take, get_or, slice_get, Option, Some, None, refl, ap, sym, subst, ◌∙◌, arith, append-nil, zero-add}
+use Rattle.std.proofs.Common.{◌≡◌, ℕ, suc, ◌+◌, ◌<◌, ◌≤◌, Bool, true, false, if◌then◌else◌, List, [], ◌∷◌, ◌++◌, length, map, take, get_or, slice_get, Option, Some, None, refl, ap, sym, ◌∙◌, arith, append-nil}
 use Rattle.std.specs.List.{flat_map}
-use Rattle.std.specs.Option.{option_map, option_map_or, option_copied}
+use Rattle.std.specs.Option.{option_map_or, option_copied}
 use Rattle.std.specs.Borrow.{Bor}
 use Rattle.std.proofs.lemmas.List.{take_more, take_all, map-append, length-map, get_or-map, append_assoc}
 use Rattle.std.proofs.lemmas.List.Concat.{flat_map-append}
 use Rattle.std.proofs.lemmas.Option.{same_Some, slice_get-get_or, slice_get_within}
 use Rattle.flat_settle.specs.declared.raw.RawCell.{RawCell}
-use Rattle.net_core.specs.declared.parts.Pin.{Pin}
 use Rattle.vlog_parse.specs.declared.tree.Module.{Module}
 use Rattle.vlog_parse.specs.declared.tree.Range.{Range}
 use Rattle.vlog_parse.specs.declared.tree.Inst.{Inst}
 use Rattle.vlog_parse.specs.declared.tree.Expr.{Expr}
-use Rattle.vlog_check.specs.Scope.{range_of, range_width, connected, numbered_from, direction_of, is_output}
-use Rattle.elab_design.specs.Design.{Path, Bit, Source, Wire, bit_of, indices, net_bits, sources}
+use Rattle.vlog_check.specs.Scope.{range_of, connected, numbered_from, direction_of, is_output}
+use Rattle.elab_design.specs.Design.{Path, Bit, Wire, bit_of, indices, net_bits, sources}
 use Rattle.elab_design.specs.Order.{links, links_of, port_links, instance_links}
 use Rattle.elab_design.specs.Raw.{pin, raw_cell}
 use Rattle.elab_design.proofs.Lists.{numbered_at}

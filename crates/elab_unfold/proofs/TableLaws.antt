@@ -1,6 +1,6 @@
 -- What is kept of a module's nets, directions and steps, one by one.
-use Rattle.std.proofs.Common.{◌≡◌, ℕ, zero, suc, ◌+◌, ◌-◌, ◌<◌, ◌≤◌, Bool, true, false, cond, if◌then◌else◌, List, [], ◌∷◌, ◌++◌, length, map, filter, take, get_or, slice_get, Option, Some, None, ◌⊎◌, inl, inr, refl, ap, sym, subst, ◌∙◌, arith, add-zero, zero-add, true≢false, append-nil, length-append, IfSome}
-use Rattle.std.specs.List.{filter_map, cons_option}
+use Rattle.std.proofs.Common.{◌≡◌, ℕ, zero, suc, ◌+◌, ◌<◌, ◌≤◌, Bool, true, false, cond, if◌then◌else◌, List, [], ◌∷◌, ◌++◌, length, map, filter, take, get_or, slice_get, Option, Some, None, ◌⊎◌, inl, inr, refl, ap, sym, subst, ◌∙◌, arith, add-zero, zero-add, length-append, IfSome}
+use Rattle.std.specs.List.{cons_option}
 use Rattle.std.specs.Option.{option_map, option_or}
 use Rattle.std.specs.Str.{bytes_eq}
 use Rattle.std.specs.Borrow.{Bor}
@@ -24,7 +24,7 @@ use Rattle.elab_unfold.specs.declared.shape.Step.{Step}
 use Rattle.elab_unfold.specs.declared.shape.Shape.{Shape}
 use Rattle.elab_unfold.specs.Places.{NetRow, row_width, rows_width, net_from, group_from, groups_from}
 use Rattle.elab_unfold.specs.Shapes.{item_of}
-use Rattle.elab_unfold.specs.Steps.{direction_in, directions_of, is_live, IsOf, IsStepOf, AreSteps, IsReadShape, AreShapes}
+use Rattle.elab_unfold.specs.Steps.{directions_of, is_live, IsOf, IsStepOf, AreSteps, IsReadShape, AreShapes}
 
 -- one more row
 

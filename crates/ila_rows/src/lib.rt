@@ -9,8 +9,6 @@ mod marked;
 #[cfg(test)]
 mod prefixes;
 #[cfg(test)]
-mod raw_text;
-#[cfg(test)]
 mod rows;
 #[cfg(test)]
 mod shown;
@@ -24,5 +22,3 @@ mod texts;
 mod tree_text;
 #[cfg(test)]
 mod trees;
-#[cfg(test)]
-mod unfolded;

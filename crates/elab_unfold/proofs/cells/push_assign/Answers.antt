@@ -1,4 +1,4 @@
-use Rattle.std.proofs.Common.{◌≡◌, ◌++◌, ap, sym, ◌∙◌, map}
+use Rattle.std.proofs.Common.{◌++◌, ap, ◌∙◌, map}
 use Rattle.elab_design.specs.Design.{sources}
 use Rattle.elab_design.specs.Raw.{pin}
 use Rattle.elab_unfold.specs.Places.{link_cells}

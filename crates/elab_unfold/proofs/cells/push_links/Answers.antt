@@ -1,4 +1,4 @@
-use Rattle.std.proofs.Common.{◌≡◌, ℕ, ◌++◌, ◌+◌, ◌<◌, ◌≤◌, ap, sym, ◌∙◌, take, length, get_or, arith}
+use Rattle.std.proofs.Common.{◌++◌, ap, ◌∙◌, take, arith}
 use Rattle.elab_unfold.specs.Places.{link_cells}
 use Rattle.elab_unfold.proofs.PinLaws.{joined_more, links_step, links_end}
 use Rattle.elab_unfold.proofs.cells.push_links.Goals as goal

@@ -1,11 +1,10 @@
-use Rattle.std.proofs.Common.{◌≡◌, ℕ, ◌+◌, ◌<◌, ◌≤◌, ◌^◌, ◌++◌, ◌∷◌, [], List, length, map, drop, take, ap, sym, subst, ◌∙◌, refl, arith}
+use Rattle.std.proofs.Common.{◌+◌, ◌++◌, ◌∷◌, [], map, drop, ap, sym, subst, ◌∙◌, arith}
 use Rattle.std.proofs.lemmas.Option.{same_Some}
 use Rattle.elab_scope.specs.Nets.{rows_seen}
 use Rattle.elab_unfold.specs.Places.{rows_width, groups_from}
 use Rattle.elab_unfold.specs.Shapes.{item_of, own_item, step_size, design_of}
 use Rattle.elab_unfold.specs.Adding.{Taken, Adds}
 use Rattle.elab_unfold.specs.declared.state.State.{State}
-use Rattle.vlog_parse.specs.declared.tree.Item.{Item}
 use Rattle.vlog_parse.specs.declared.tree.Item.TheVariants as items
 use Rattle.elab_unfold.proofs.NetLaws.{prefix_into}
 use Rattle.elab_unfold.proofs.ShapeLaws.{size_at, depth_at, own_known, inside_known, sizes_at, items_at, own_none, kind_known, truncated, items_end}

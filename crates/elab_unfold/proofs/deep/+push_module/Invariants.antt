@@ -1,4 +1,4 @@
-use Rattle.std.proofs.Common.{◌≡◌, ℕ, ◌+◌, map, drop}
+use Rattle.std.proofs.Common.{◌≡◌, ◌+◌, map, drop}
 use Rattle.elab_design.specs.Design.{Path}
 use Rattle.elab_unfold.specs.Places.{prefix_of}
 use Rattle.elab_unfold.specs.Shapes.{shape_depth, shape_size, steps_size, item_of, design_of}

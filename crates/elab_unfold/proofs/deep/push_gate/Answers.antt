@@ -1,4 +1,4 @@
-use Rattle.std.proofs.Common.{◌≡◌, ◌∙◌, ◌++◌, ◌∷◌, [], ap, refl}
+use Rattle.std.proofs.Common.{◌∙◌, ◌++◌, ◌∷◌, [], ap, refl}
 use Rattle.elab_design.specs.DesignCells.{gate_cell}
 use Rattle.elab_design.specs.Raw.{raw_cell}
 use Rattle.elab_unfold.proofs.DeepLaws.{renamed, named_at}

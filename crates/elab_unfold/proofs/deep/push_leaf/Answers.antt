@@ -1,4 +1,4 @@
-use Rattle.std.proofs.Common.{◌≡◌, ◌∙◌, ◌++◌, ◌∷◌, [], ap, refl, Some}
+use Rattle.std.proofs.Common.{◌∙◌, ◌++◌, ◌∷◌, [], ap, refl, Some}
 use Rattle.elab_design.specs.DesignCells.{leaf_cell}
 use Rattle.elab_design.specs.Raw.{raw_cell}
 use Rattle.elab_unfold.proofs.DeepLaws.{renamed, name_at}

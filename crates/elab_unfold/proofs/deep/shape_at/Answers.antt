@@ -1,4 +1,4 @@
-use Rattle.std.proofs.Common.{arith, sym}
+use Rattle.std.proofs.Common.{arith}
 use Rattle.std.proofs.lemmas.List.{get_or_read}
 use Rattle.elab_unfold.proofs.ShapeLaws.{within, found_at, found_right}
 use Rattle.elab_unfold.proofs.deep.shape_at.Goals as goal

@@ -1,4 +1,4 @@
-use Rattle.std.proofs.Common.{◌≡◌, ◌++◌, ap, sym, refl, ◌∙◌, map, false, None}
+use Rattle.std.proofs.Common.{ap, refl, ◌∙◌, map, false, None}
 use Rattle.std.specs.List.{flat_map}
 use Rattle.elab_design.specs.Design.{sources}
 use Rattle.net_core.specs.declared.kind.CellKind.TheVariants.{Gate}

@@ -1,4 +1,4 @@
-use Rattle.std.proofs.Common.{[], None, ◌≡◌, ◌+◌, ◌<◌, ◌≤◌, ◌^◌, ◌∙◌, ap, sym, take, arith}
+use Rattle.std.proofs.Common.{[], None, ◌∙◌, arith}
 use Rattle.elab_unfold.proofs.TableLaws.{group_step, width_step, width_room}
 use Rattle.elab_unfold.proofs.groups.push_groups.Goals as goal
 

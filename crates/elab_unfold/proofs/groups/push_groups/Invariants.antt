@@ -1,4 +1,4 @@
-use Rattle.std.proofs.Common.{◌≡◌, ◌+◌, ◌++◌, take, drop}
+use Rattle.std.proofs.Common.{◌≡◌, ◌+◌, ◌++◌, take}
 use Rattle.elab_scope.specs.Nets.{rows_seen}
 use Rattle.elab_unfold.specs.Places.{rows_width, groups_from}
 use Rattle.elab_unfold.proofs.groups.push_groups.Given as goal

@@ -1,6 +1,6 @@
-use Rattle.std.proofs.Common.{◌≡◌, ◌∙◌, ap, sym, ◌<◌, ◌^◌, ◌==◌, nat_lt, if◌then◌else◌, codes}
+use Rattle.std.proofs.Common.{◌∙◌, ap, ◌^◌, ◌==◌, nat_lt, if◌then◌else◌, codes}
 use Rattle.vlog_check.specs.CellRows.{kind_with}
-use Rattle.elab_design.specs.DesignCells.{init_of, parameter}
+use Rattle.elab_design.specs.DesignCells.{parameter}
 use Rattle.elab_unfold.proofs.LeafLaws.{kind_small}
 use Rattle.elab_unfold.proofs.leaves.cell_kind.Goals as goal
 

@@ -1,4 +1,4 @@
-use Rattle.std.proofs.Common.{◌≡◌, ◌∙◌, ◌++◌, ap, sym, map, replicate, None}
+use Rattle.std.proofs.Common.{◌∙◌, ◌++◌, ap, sym, map, replicate, None}
 use Rattle.std.specs.Option.{option_map_or, option_copied}
 use Rattle.vlog_check.specs.Cells.{pin_row}
 use Rattle.vlog_check.specs.CellRows.{bits_with}

@@ -1,4 +1,4 @@
-use Rattle.std.proofs.Common.{◌≡◌, ℕ, ◌++◌, map, take, filter}
+use Rattle.std.proofs.Common.{◌≡◌, ℕ, map, take, filter}
 use Rattle.std.specs.List.{flat_map}
 use Rattle.vlog_check.specs.Cells.{pin_row}
 use Rattle.vlog_check.specs.CellRows.{is_data_input}

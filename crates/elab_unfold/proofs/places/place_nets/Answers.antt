@@ -1,5 +1,4 @@
-use Rattle.std.proofs.Common.{◌≡◌, ◌+◌, ◌<◌, ◌≤◌, ◌^◌, ◌∙◌, ap, sym, take, arith}
-use Rattle.elab_scope.specs.Nets.{rows_seen, named_nets}
+use Rattle.std.proofs.Common.{ap, arith}
 use Rattle.elab_unfold.specs.Places.{rows_width}
 use Rattle.elab_unfold.proofs.TableLaws.{place_step, first_step, first_room}
 use Rattle.elab_unfold.proofs.places.place_nets.Goals as goal

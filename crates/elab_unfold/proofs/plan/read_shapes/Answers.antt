@@ -1,4 +1,4 @@
-use Rattle.std.proofs.Common.{◌≡◌, ◌≤◌, ◌<◌, ap, length, sym, ◌∙◌, arith}
+use Rattle.std.proofs.Common.{ap, length, arith}
 use Rattle.elab_unfold.proofs.TableLaws.{shapes_step}
 use Rattle.elab_unfold.proofs.plan.read_shapes.Goals as goal
 

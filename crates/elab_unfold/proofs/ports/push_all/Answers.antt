@@ -1,4 +1,4 @@
-use Rattle.std.proofs.Common.{◌≡◌, ◌∙◌, ◌++◌, ◌<◌, ◌≤◌, ap, sym, map, false, [], None, length, arith}
+use Rattle.std.proofs.Common.{◌∙◌, ◌++◌, ap, map, false, [], None, arith}
 use Rattle.elab_design.specs.Raw.{raw_cell}
 use Rattle.elab_unfold.specs.Shapes.{port_seen}
 use Rattle.elab_unfold.proofs.LeafLaws.{given_sound}
