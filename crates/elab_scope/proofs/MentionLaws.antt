@@ -1,19 +1,19 @@
 -- One more mention of a name behind others.
-use Rattle.std.proofs.Common.{◌≡◌, ℕ, ◌+◌, ◌<◌, ◌≤◌, Bool, true, false, ◌||◌, cond, if◌then◌else◌, List, [], ◌∷◌, ◌++◌, length, take, map, get_or, Option, Some, None, is_some, refl, ap, sym, subst, ◌∙◌, append-nil, true≢false, arith}
-use Rattle.std.specs.List.{filter_map, cons_option}
+use Rattle.std.proofs.Common.{◌≡◌, ℕ, ◌+◌, ◌<◌, Bool, true, false, ◌||◌, cond, if◌then◌else◌, List, [], ◌∷◌, ◌++◌, length, take, map, get_or, Option, Some, None, is_some, refl, ap, sym, subst, ◌∙◌, append-nil, true≢false, arith}
+use Rattle.std.specs.List.{cons_option}
 use Rattle.std.specs.Option.{option_map, option_or}
 use Rattle.std.specs.Str.{bytes_eq}
-use Rattle.std.proofs.lemmas.List.{map_push, take_more, map-append, take-map, length-map, get_or-map, append_assoc}
+use Rattle.std.proofs.lemmas.List.{map-append, take-map, length-map, get_or-map, append_assoc}
 use Rattle.std.proofs.lemmas.List.Elements.{filter_map-append}
 use Rattle.vlog_parse.specs.declared.tree.Module.{Module}
 use Rattle.vlog_parse.specs.declared.tree.Range.{Range}
 use Rattle.vlog_parse.specs.declared.tree.Item.{Item}
 use Rattle.vlog_check.specs.Names.{IsNumbering}
-use Rattle.vlog_check.specs.Scope.{value_of, is_among, range_of, module_names, declared, declared_by}
+use Rattle.vlog_check.specs.Scope.{value_of, is_among, module_names, declared, declared_by}
 use Rattle.vlog_check.proofs.LeastLaws.{take_step}
 use Rattle.vlog_check.proofs.NameLaws.{numbering_step}
 use Rattle.elab_design.specs.Order.{first_mentions}
-use Rattle.elab_design.proofs.MentionLaws.{names_same, same_names, among_any, among_more}
+use Rattle.elab_design.proofs.MentionLaws.{names_same, among_more}
 use Rattle.elab_scope.specs.declared.nets.Reading.{Reading}
 use Rattle.elab_scope.specs.Nets.{rows_seen, net_named, nets_named, declared_names, IsMentioned}
 

@@ -14,7 +14,7 @@ use Rattle.vlog_check.specs.declared.primitive.Primitive.{Primitive}
 use Rattle.vlog_check.specs.Cells.{pins}
 use Rattle.vlog_check.specs.CellRows.{bits_with}
 use Rattle.vlog_check.specs.Checked.{IsBelow}
-use Rattle.vlog_check.specs.Scope.{value_of, range_width, width_of, module_number, cell_of}
+use Rattle.vlog_check.specs.Scope.{range_width, width_of, module_number, cell_of}
 use Rattle.elab_design.specs.DesignCells.{parameter}
 use Rattle.elab_design.specs.Limits.{carried}
 use Rattle.elab_scope.specs.declared.amounts.Count.{Count}

@@ -1,5 +1,5 @@
 -- The nets of a module with their ranges, in order of first mention.
-use Rattle.std.specs.Prelude.{◌≡◌, ℕ, ◌++◌, List, [], map, filter_map, is_some, Option}
+use Rattle.std.specs.Prelude.{◌≡◌, ℕ, List, [], map, filter_map, is_some, Option}
 use Rattle.std.specs.Borrow.{Bor}
 use Rattle.std.specs.Option.{option_map}
 use Rattle.vlog_parse.specs.declared.tree.Module.{Module}

@@ -1,19 +1,17 @@
 -- The nets of a module: where their bits stand, and numbers that rise with them.
-use Rattle.std.proofs.Common.{◌≡◌, ℕ, zero, suc, ◌+◌, ◌-◌, ◌<◌, ◌≤◌, nat_le, Bool, true, false, cond, if◌then◌else◌, List, [], ◌∷◌, ◌++◌, length, map, slice_get, Option, Some, None, refl, ap, sym, subst, ◌∙◌, arith, zero-add, add-zero, length-append, true≢false}
-use Rattle.std.specs.List.{flat_map, filter_map, cons_option, range_with_len, sum_by}
-use Rattle.std.specs.Option.{option_map, option_or, option_map_or}
+use Rattle.std.proofs.Common.{◌≡◌, ℕ, zero, suc, ◌+◌, ◌≤◌, Bool, true, false, if◌then◌else◌, List, [], ◌∷◌, ◌++◌, length, map, slice_get, Option, Some, None, refl, ap, sym, subst, ◌∙◌, arith, zero-add, add-zero, length-append}
+use Rattle.std.specs.List.{flat_map, filter_map, cons_option, range_with_len}
+use Rattle.std.specs.Option.{option_map}
 use Rattle.std.specs.Str.{bytes_eq}
 use Rattle.std.proofs.lemmas.List.{length-map, append_assoc}
-use Rattle.std.proofs.lemmas.List.Concat.{flat_map-append}
 use Rattle.std.proofs.lemmas.Option.{same_Some, slice_get-map}
 use Rattle.net_core.proofs.ListLemmas.{option_map_some, slice_get_left, slice_get_right}
-use Rattle.net_core.specs.WellFormed.{range_indices}
 use Rattle.net_core.specs.declared.parts.Group.{Group}
 use Rattle.flat_settle.proofs.NameLemmas.{range_width as length-range_indices}
 use Rattle.vlog_parse.specs.declared.tree.Module.{Module}
 use Rattle.vlog_parse.specs.declared.tree.Range.{Range}
 use Rattle.vlog_parse.specs.ReadTree.{In}
-use Rattle.vlog_check.specs.Scope.{value_of, range_of, range_width}
+use Rattle.vlog_check.specs.Scope.{range_of, range_width}
 use Rattle.elab_design.specs.Design.{Path, Bit, bit_of, indices}
 use Rattle.elab_design.specs.Names.{flat_name}
 use Rattle.elab_design.specs.Order.{DesignGroup, group_bits, net_group, net_names, own_groups}
@@ -23,7 +21,7 @@ use Rattle.elab_design.proofs.MentionLaws.{names_same, same_names}
 use Rattle.elab_design.proofs.GroupLaws.{declared_named}
 use Rattle.elab_scope.specs.Nets.{net_named, nets_named, named_nets}
 use Rattle.elab_unfold.specs.declared.places.Net.{Net}
-use Rattle.elab_unfold.specs.Places.{NetRow, row_width, rows_width, net_from, net_of, own_width, Fits, group_from, groups_from, prefix_of}
+use Rattle.elab_unfold.specs.Places.{NetRow, row_width, rows_width, net_from, net_of, Fits, group_from, groups_from, prefix_of}
 use Rattle.elab_unfold.specs.Adding.{Numbers}
 
 -- Look-ups of nets
@@ -160,8 +158,8 @@ numbers_are number (b ∷ bits) base rise =
 pub fits_own : (m : Module) (path : Path) (base : ℕ) (number : Bit → ℕ) → Numbers number base (row_bits path (named_nets m)) → Fits m path base number
 fits_own m path base number rise = record {
   at = λ name net k i found at.
-  let place = bit_at_place path (named_nets m) 0 name net k i found at in
-  rise (place.0 + k) (bit_of path name i) place.2 ∙ omega (arith, place.1);
+      let place = bit_at_place path (named_nets m) 0 name net k i found at in
+      rise (place.0 + k) (bit_of path name i) place.2 ∙ omega (arith, place.1);
 }
 
 pub numbers_of_net : (m : Module) (path : Path) (base : ℕ) (number : Bit → ℕ) (name : List ℕ) (net : Net) → Fits m path base number → net_of m name ≡ Some net → Numbers number (base + net.first) (map (bit_of path name) (indices net.range))

@@ -1,13 +1,13 @@
 -- The pins of expressions, links and gates, under numbers that fit the nets of their module.
-use Rattle.std.proofs.Common.{◌≡◌, ℕ, zero, suc, ◌+◌, ◌-◌, ◌<◌, ◌≤◌, Bool, true, false, cond, if◌then◌else◌, List, [], ◌∷◌, ◌++◌, length, map, take, drop, get_or, slice_get, Option, Some, None, ◌⊎◌, inl, inr, refl, ap, sym, subst, ◌∙◌, arith, zero-add, add-zero, append-nil, true≢false}
+use Rattle.std.proofs.Common.{◌≡◌, ℕ, zero, suc, ◌+◌, ◌-◌, ◌<◌, ◌≤◌, Bool, true, false, if◌then◌else◌, List, [], ◌∷◌, ◌++◌, length, map, take, drop, get_or, slice_get, Option, Some, None, ◌⊎◌, inl, inr, refl, ap, sym, ◌∙◌, arith, append-nil, add-one, min}
 use Rattle.std.specs.List.{flat_map, range_with_len}
 use Rattle.std.specs.Option.{option_map, option_map_or}
-use Rattle.std.proofs.lemmas.List.{length-map, map-append, take-map, drop-map, take_all, append_assoc}
+use Rattle.std.proofs.lemmas.List.{length-map, take-map, drop-map, take_all, append_assoc}
 use Rattle.std.proofs.lemmas.List.Concat.{flat_map-append}
 use Rattle.std.proofs.lemmas.Option.{same_Some, slice_get-map}
 use Rattle.net_core.specs.declared.parts.Pin.{Pin}
 use Rattle.net_core.specs.declared.parts.NetId.{NetId}
-use Rattle.net_core.specs.WellFormed.{range_indices}
+use Rattle.net_core.specs.declared.kind.CellKind.{CellKind}
 use Rattle.flat_settle.specs.declared.raw.RawCell.{RawCell}
 use Rattle.ila_base.specs.declared.place.Place.{Place}
 use Rattle.ila_base.specs.declared.place.Word.{Word}
@@ -15,10 +15,9 @@ use Rattle.vlog_parse.specs.declared.tree.Expr.{Expr, fold-roll-Expr}
 use Rattle.vlog_parse.specs.declared.tree.Expr.TheVariants.{Concat, Const, rolls-Const}
 use Rattle.vlog_parse.specs.declared.tree.Expr.TheOpen as layer
 use Rattle.vlog_parse.specs.declared.tree.Module.{Module}
-use Rattle.vlog_parse.specs.declared.tree.Range.{Range}
 use Rattle.vlog_parse.specs.declared.tree.GateKind.{GateKind}
 use Rattle.vlog_parse.specs.Leaves.{Leaf, Fixed as constant, leaves, leaves_at}
-use Rattle.vlog_check.specs.Scope.{range_of, range_width}
+use Rattle.vlog_check.specs.Scope.{range_width}
 use Rattle.vlog_check.proofs.ReadingLaws.{leaves-Concat}
 use Rattle.elab_design.specs.Design.{Path, Bit, bit_of, wire, Source, Wire, Fixed, indices, net_bits, leaf_sources, sources, word_bits}
 use Rattle.elab_design.specs.DesignCells as design
@@ -149,3 +148,23 @@ pushed_more old now new done next x was is same = is ∙ ap (λ xs. xs ++ x ∷ 
 
 pub joined_more : {X : Type 0} (old now new done more next : List X) → now ≡ old ++ done → new ≡ now ++ more → done ++ more ≡ next → new ≡ old ++ next
 joined_more old now new done more next was is same = is ∙ ap (λ xs. xs ++ more) was ∙ append_assoc old done more ∙ ap (λ xs. old ++ xs) same
+
+pub links_step : (k : ℕ) (xs ys : List Pin) (x y : Pin) → k < length xs → k < length ys
+    → link_cells (take k xs) (take k ys) ++ link_where (get_or xs k x) (pin_net (get_or ys k y)) ≡ link_cells (take (k + 1) xs) (take (k + 1) ys)
+links_step k xs ys x y low_x low_y = sym (links_more k xs ys x y low_x low_y) ∙ ap (λ n. link_cells (take n xs) (take n ys)) (sym (add-one k))
+
+pub links_end : (k : ℕ) (xs ys : List Pin) → min (length xs) (length ys) ≤ k → link_cells (take k xs) (take k ys) ≡ link_cells xs ys
+links_end k xs ys end = links_all k xs ys (either (length xs) (length ys) end)
+  where
+    either : (a b : ℕ) → min a b ≤ k → (a ≤ k) ⊎ (b ≤ k)
+    either a b low = grind arith
+
+-- Cells with equal pins
+
+pub same_cell : (link : Bool) (kind other : CellKind) (name : Option (List ℕ)) (ins more : List Pin) (outs nets : List (Option NetId)) (clock last : Option Pin) → kind ≡ other → ins ≡ more → outs ≡ nets → clock ≡ last
+    → ◌≡◌ {A = RawCell} (record { link = link; kind = kind; name = name; ins = ins; outs = outs; clock = clock }) (record { link = link; kind = other; name = name; ins = more; outs = nets; clock = last })
+same_cell link kind other name ins more outs nets clock last k i o c = cc
+
+-- what was pushed to nothing
+pub from_nothing : {X : Type 0} (old new more : List X) → old ≡ [] → new ≡ old ++ more → new ≡ more
+from_nothing old new more empty is = is ∙ ap (λ xs. xs ++ more) empty

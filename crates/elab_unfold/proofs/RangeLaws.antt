@@ -1,16 +1,16 @@
 -- Indices of nets: where they stand, and parts of ranges.
-use Rattle.std.proofs.Common.{◌≡◌, ℕ, zero, suc, ◌+◌, ◌-◌, ◌*◌, ◌^◌, ◌<◌, ◌≤◌, nat_le, ◌==◌, Bool, true, false, cond, ◌&&◌, ◌||◌, List, [], ◌∷◌, ◌++◌, length, map, reverse, take, get_or, slice_get, is_some, Option, Some, None, ◌⊎◌, inl, inr, refl, ap, sym, subst, ◌∙◌, arith, true≢false, add-zero, zero-add}
+use Rattle.std.proofs.Common.{◌≡◌, ℕ, zero, suc, ◌+◌, ◌-◌, ◌*◌, ◌^◌, ◌<◌, ◌≤◌, nat_le, ◌==◌, Bool, true, false, ◌&&◌, ◌||◌, List, [], ◌∷◌, ◌++◌, length, map, reverse, take, get_or, slice_get, is_some, Option, Some, None, ◌⊎◌, inl, inr, refl, ap, sym, ◌∙◌, arith, true≢false}
 use Rattle.std.specs.List.{flat_map, list_all, range_with_len}
-use Rattle.std.specs.Option.{option_map, option_map_or}
+use Rattle.std.specs.Option.{option_map_or}
 use Rattle.std.specs.Int.{bit_at}
 use Rattle.std.proofs.lemmas.Bool.Decides.{nat_tests}
 use Rattle.std.proofs.lemmas.Nat.Bits.{bit_at-zero, bit_at_cat_high}
 use Rattle.std.proofs.lemmas.List.{length-map, get_or-map, get_or-reverse, length-reverse, map_push, take_more}
 use Rattle.std.proofs.lemmas.List.Folds.{list_all-append}
 use Rattle.std.proofs.lemmas.List.FromFn.{length-range_with_len, get_or-range_with_len}
-use Rattle.std.proofs.lemmas.Option.{slice_get_within, slice_get-get_or}
+use Rattle.std.proofs.lemmas.Option.{slice_get_within}
 use Rattle.net_core.specs.WellFormed.{range_indices}
-use Rattle.net_core.proofs.NetNameLemmas.{index_from_left, index_from_right, index_within}
+use Rattle.net_core.proofs.NetNameLemmas.{index_from_left, index_from_right}
 use Rattle.flat_settle.proofs.NameLemmas.{range_width as length-range_indices}
 use Rattle.ila_base.specs.declared.place.Word.{Word}
 use Rattle.vlog_parse.specs.declared.tree.Expr.{Expr}

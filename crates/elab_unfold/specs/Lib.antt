@@ -4,3 +4,4 @@ pub mod Ports
 pub mod Steps
 pub mod Adding
 pub mod Whole
+pub mod Parts

@@ -120,3 +120,8 @@ pub record IsKept (plan : Plan) (n : ℕ) : Type 0 where
 -- so for the top and all modules below it
 abbrev pub IsPlan : Plan → Type 0
 IsPlan plan = (n : ℕ) → IsPart plan.tree.now plan.top n → IsKept plan n
+
+-- what is kept is right for the module with this number
+pub record IsRight (plan : Plan) (n : ℕ) (shape : Shape) : Type 0 where
+  pub at : slice_get plan.tree.now.modules n ≡ Some (shape.places.holder.now)
+  pub right : IsShape plan (shape.places.holder.now) shape

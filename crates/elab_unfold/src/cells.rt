@@ -52,12 +52,7 @@ fn link(alloc: Global, from: Pin, to: NetId) -> Result<RawCell, NoMemory>
 }
 
 // Adds the link from a pin to another, if that is on a net.
-fn push_link(
-    alloc: Global,
-    from: Pin,
-    to: Pin,
-    cells: &mut Items<RawCell>,
-) -> Result<(), NoMemory>
+fn push_link(alloc: Global, from: Pin, to: Pin, cells: &mut Items<RawCell>) -> Result<(), NoMemory>
     ensures { OnOk result (cells.new ≡ cells.old ++ link_where from (pin_net to)) }
 {
     match net_of(to) {

@@ -8,7 +8,7 @@ ghost use Rattle.elab_design.specs.DesignCells as design;
 ghost use Rattle.elab_design.specs.Order.{own_cells, instance_links};
 ghost use Rattle.elab_design.specs.Raw.{raw_cell};
 ghost use Rattle.elab_unfold.specs.Places.{own_width, ArePlaces, AreSound, Fits, prefix_of};
-ghost use Rattle.elab_unfold.specs.Shapes.{AreSmall, own_item, IsOwn, ArePorts, IsPlan, shape_size, design_of};
+ghost use Rattle.elab_unfold.specs.Shapes.{AreSmall, own_item, IsOwn, ArePorts, IsPlan, IsRight, shape_size, design_of};
 ghost use Rattle.elab_unfold.specs.Adding.{Adds, AddsCells};
 
 use crate::cells::push_assign;
@@ -136,6 +136,16 @@ fn push_border(
     Ok(())
 }
 
+// What is kept of a module with this number, which is the top or below it.
+fn shape_at<'p, 'a>(plan: &'p Plan<'a>, number: usize) -> &'p Shape<'a>
+    requires plan { IsPlan plan.now }
+    requires part { IsPart plan.now.tree.now plan.now.top number }
+    ensures at { slice_get plan.now.shapes.items number ≡ Some result.now }
+    ensures right { IsRight plan.now number result.now }
+{
+    &plan.shapes[number]
+}
+
 /// Adds a module at a path: its nets, and then its items in order. An instance of a module is its links,
 /// and then that module. It recurses as deep as instances are in one another.
 pub fn push_module(
@@ -151,15 +161,18 @@ pub fn push_module(
     ensures nets { OnOk result (state.new.nets ≡ state.old.nets + shape_size plan.now number) }
     ensures adds { OnOk result ((m : ModuleOf) (path : Path) → slice_get plan.now.tree.now.modules number ≡ Some m → state.old.prefix.items ≡ prefix_of path → Adds (design_of plan.now) m path state.old state.new) }
 {
-    let shape = &plan.shapes[number];
+    let shape = shape_at(plan, number);
     let base = state.nets;
     push_groups(alloc, shape.order.as_slice(), state)?;
     for step in shape.steps.as_slice() {
         match step {
-            Step::Own(own) => push_own(alloc, plan, &shape.places, base, *own, state)?,
+            Step::Own(own) => {
+                push_own(alloc, plan, &shape.places, base, *own, state)?;
+            }
             Step::Inside(inside, inst) => {
                 let end = state.prefix.len();
-                push_border(alloc, &shape.places, base, &plan.shapes[*inside], inst, state)?;
+                let inner = shape_at(plan, *inside);
+                push_border(alloc, &shape.places, base, inner, inst, state)?;
                 push_module(alloc, plan, *inside, state)?;
                 state.prefix.truncate(end);
             }

@@ -132,12 +132,7 @@ fn push_constant(word: Word, out: &mut Items<Pin>) -> Result<(), NoMemory>
 
 /// Adds what the bits of an expression of a module are on, the most significant first, where the
 /// numbers of the module's net bits begin with `base`. It recurses as deep as concatenations are nested.
-pub fn push_pins(
-    places: &Places,
-    base: u32,
-    e: &Expr,
-    out: &mut Items<Pin>,
-) -> Result<(), NoMemory>
+pub fn push_pins(places: &Places, base: u32, e: &Expr, out: &mut Items<Pin>) -> Result<(), NoMemory>
     requires places { ArePlaces places.now }
     requires room { base + own_width places.now.holder.now < 2 ^ 32 }
     requires sound { is_sound places.now.holder.now e.now ≡ true }

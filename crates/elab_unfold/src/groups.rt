@@ -73,7 +73,9 @@ pub fn push_groups(
     ensures groups { OnOk result (state.new.groups ≡ state.old.groups ++ groups_from state.old.prefix.items state.old.nets (map (λ net. (net.0.now, net.1)) order.now)) }
 {
     for row in order {
-        push_group(alloc, row.0, row.1, state)?;
+        let name = row.0;
+        let range = row.1;
+        push_group(alloc, name, range, state)?;
     }
     Ok(())
 }

@@ -37,7 +37,7 @@ fn parameter(params: &[(Name, Value)], name: &[u8], missing: u128) -> u128
     ensures { result ≡ design.parameter params.now name.now missing }
 {
     for param in params {
-        if param.0.bytes() == name {
+        if name == param.0.bytes() {
             return number_in(param.1).unwrap_or(missing);
         }
     }
@@ -54,10 +54,24 @@ fn own_init(cell: Primitive) -> u128
 }
 
 // The number if it is below two to the 64.
-fn small(value: u128) -> u64
+fn small_64(value: u128) -> u64
     ensures { result ≡ (if nat_lt value (2 ^ 64) then value else 0) }
 {
     if value < 1 << 64 { value as u64 } else { 0 }
+}
+
+// The number if it is below two to the 16.
+fn small_16(value: u128) -> u16
+    ensures { result ≡ (if nat_lt value (2 ^ 16) then value else 0) }
+{
+    if value < 1 << 16 { value as u16 } else { 0 }
+}
+
+// The number if it is below two to the 8.
+fn small_8(value: u128) -> u8
+    ensures { result ≡ (if nat_lt value (2 ^ 8) then value else 0) }
+{
+    if value < 1 << 8 { value as u8 } else { 0 }
 }
 
 // The kind of a cell with this INIT, AW and DW.
@@ -94,9 +108,9 @@ pub fn cell_kind(cell: Primitive, params: &[(Name, Value)]) -> CellKind
     ensures { result ≡ design.cell_kind cell params.now }
 {
     let init = parameter(params, b"INIT", own_init(cell));
-    let aw = small(parameter(params, b"AW", 0)) & 0xff;
-    let dw = small(parameter(params, b"DW", 0)) & 0xffff;
-    kind_of(cell, small(init), init == 1, aw as u8, dw as u16)
+    let aw = small_8(parameter(params, b"AW", 0));
+    let dw = small_16(parameter(params, b"DW", 0));
+    kind_of(cell, small_64(init), init == 1, aw, dw)
 }
 
 // What a pin of a cell is connected to.
@@ -185,16 +199,23 @@ fn read_ins(
     Ok(ins)
 }
 
-// Adds open pins, as many as an output has that no parameter makes wide.
+// How many bits a pin has that no parameter makes wide.
+fn open_count(size: Size) -> u8
+    ensures { result ≡ rows.bits_sized 0 0 size }
+{
+    match size {
+        Size::One => 1,
+        Size::Four => 4,
+        Size::Address => 0,
+        Size::Data => 0,
+    }
+}
+
+// Adds open pins, as many as an output has.
 fn push_open(size: Size, out: &mut Items<Option<NetId>>) -> Result<(), NoMemory>
     ensures { OnOk result (out.new ≡ out.old ++ replicate (rows.bits_sized 0 0 size) None) }
 {
-    let count = match size {
-        Size::One => 1,
-        Size::Four => 4,
-        Size::Address | Size::Data => 0,
-    };
-    for _ in 0..count {
+    for _k in 0..open_count(size) {
         out.push(None)?;
     }
     Ok(())

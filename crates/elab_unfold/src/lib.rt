@@ -11,10 +11,12 @@ mod places;
 mod plan;
 mod ports;
 mod prefix;
+mod raw;
+mod read_plan;
 mod shape;
 mod state;
 mod steps;
 mod whole;
 
 pub use plan::read_directions;
-pub use whole::unfold;
+pub use raw::unfold;

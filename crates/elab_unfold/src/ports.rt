@@ -135,6 +135,39 @@ fn push_given(
     }
 }
 
+// Adds the links of the ports of an instance, which are connected so.
+fn push_all(
+    alloc: Global,
+    outer: &Places,
+    base: u32,
+    inner: &Shape,
+    next: u32,
+    inst: &Inst,
+    given: &Given,
+    cells: &mut Items<RawCell>,
+) -> Result<(), NoMemory>
+    requires outer { ArePlaces outer.now }
+    requires ports { ArePorts inner.now }
+    requires room { base + own_width outer.now.holder.now < 2 ^ 32 }
+    requires inner_room { next + own_width inner.now.places.holder.now < 2 ^ 32 }
+    requires sound { AreSound outer.now.holder.now (connected_exprs inst.now.conns) }
+    requires given { IsGiven inst.now.conns given.now }
+    ensures { OnOk result ((path : Path) (number : Bit → ℕ) → Fits outer.now.holder.now path base number → Fits inner.now.places.holder.now (inst.now.name ∷ path) next number → cells.new ≡ cells.old ++ map (raw_cell number) (instance_links outer.now.holder.now path inst.now inner.now.places.holder.now)) }
+{
+    for (k, port) in inner.ports.as_slice().iter().enumerate() {
+        push_given(
+            alloc,
+            outer,
+            base,
+            next,
+            port,
+            connected(given, k, port.name),
+            cells,
+        )?;
+    }
+    Ok(())
+}
+
 /// Adds the links of an instance of a module, whose net bits begin with the number `next`.
 pub fn push_ports(
     alloc: Global,
@@ -153,9 +186,6 @@ pub fn push_ports(
     ensures { OnOk result ((path : Path) (number : Bit → ℕ) → Fits outer.now.holder.now path base number → Fits inner.now.places.holder.now (inst.now.name ∷ path) next number → cells.new ≡ cells.old ++ map (raw_cell number) (instance_links outer.now.holder.now path inst.now inner.now.places.holder.now)) }
 {
     let given = read_given(alloc, &inst.conns)?;
-    for (k, port) in inner.ports.as_slice().iter().enumerate() {
-        let e = connected(&given, k, port.name);
-        push_given(alloc, outer, base, next, port, e, cells)?;
-    }
+    push_all(alloc, outer, base, inner, next, inst, &given, cells)?;
     Ok(())
 }

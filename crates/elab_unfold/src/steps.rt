@@ -1,6 +1,7 @@
-ghost use Rattle.std.specs.Prelude.{◌≡◌, false, IfOk, MatchOption};
+ghost use Rattle.std.specs.Prelude.{◌≡◌, List, [], ◌∷◌, ◌++◌, false, IfOk, OnOk, MatchOption};
 ghost use Rattle.elab_scope.specs.Counting.{count_at};
 ghost use Rattle.elab_scope.specs.Modules.{AreNumbered};
+ghost use Rattle.vlog_parse.specs.declared.tree.Item.{Item as ItemOf};
 ghost use Rattle.vlog_parse.specs.declared.tree.Item.TheVariants as items;
 ghost use Rattle.elab_unfold.specs.Steps.{has_some, is_live, IsStepOf, AreSteps};
 
@@ -20,11 +21,7 @@ fn has_some(counts: &[Option<Count>], number: usize) -> bool
     }
 }
 
-fn step_of_inst<'a>(
-    modules: &Modules,
-    counts: &[Option<Count>],
-    inst: &'a Inst,
-) -> Option<Step<'a>>
+fn step_of_inst<'a>(modules: &Modules, counts: &[Option<Count>], inst: &'a Inst) -> Option<Step<'a>>
     requires { AreNumbered modules.now }
     ensures { MatchOption result (is_live modules.now.tree.now counts.now (items.Inst inst.now) ≡ false) (IsStepOf modules.now.tree.now counts.now (items.Inst inst.now)) }
 {
@@ -53,6 +50,25 @@ fn step_of<'a>(modules: &Modules, counts: &[Option<Count>], item: &'a Item) -> O
     }
 }
 
+// Adds the step of an item behind those of others, if it unfolds to something.
+fn add_step<'a>(
+    modules: &Modules,
+    counts: &[Option<Count>],
+    item: &'a Item,
+    steps: &mut Vec<Step<'a>>,
+) -> Result<(), NoMemory>
+    requires { AreNumbered modules.now }
+    ensures { OnOk result ((given : List ItemOf) → AreSteps modules.now.tree.now counts.now given steps.old.items → AreSteps modules.now.tree.now counts.now (given ++ item.now ∷ []) steps.new.items) }
+{
+    match step_of(modules, counts, item) {
+        None => Ok(()),
+        Some(step) => {
+            steps.push(step)?;
+            Ok(())
+        }
+    }
+}
+
 /// The items of a module that unfold to something, in order.
 pub fn read_steps<'a>(
     alloc: Global,
@@ -65,9 +81,7 @@ pub fn read_steps<'a>(
 {
     let mut steps = Vec::new(alloc);
     for item in m.items.as_slice() {
-        if let Some(step) = step_of(modules, counts, item) {
-            steps.push(step)?;
-        }
+        add_step(modules, counts, item, &mut steps)?;
     }
     Ok(steps)
 }

@@ -1,4 +1,4 @@
-use Rattle.std.proofs.Common.{sym, ap, ◌∙◌, Some, None}
+use Rattle.std.proofs.Common.{sym, ap, ◌∙◌, Some}
 use Rattle.vlog_check.specs.Scope.{declared_by}
 use Rattle.vlog_check.proofs.NameLaws.{said_nothing, said_more}
 use Rattle.elab_scope.proofs.nets.add_range.Goals as goal

@@ -1,4 +1,4 @@
-use Rattle.std.proofs.Common.{◌≡◌, ℕ, ◌+◌, ◌<◌, ◌≤◌, List, [], ◌∷◌, ◌++◌, length, take, refl, sym, ap, ◌∙◌, subst}
+use Rattle.std.proofs.Common.{◌++◌, take, subst}
 use Rattle.elab_scope.specs.Nets.{declared_names, IsMentioned}
 use Rattle.elab_scope.proofs.MentionLaws.{names_step}
 use Rattle.elab_scope.proofs.nets.mention_declared.Goals as goal

@@ -1,4 +1,4 @@
-use Rattle.std.proofs.Common.{List, take, []}
+use Rattle.std.proofs.Common.{take, []}
 use Rattle.elab_scope.specs.Nets.{IsMentioned}
 use Rattle.elab_scope.proofs.nets.mention_header.Given as goal
 

@@ -1,5 +1,3 @@
-use Rattle.std.proofs.Common.{◌≡◌, ◌∙◌, ap, sym, subst, ◌+◌, take, map, length}
-use Rattle.vlog_check.specs.Names.{IsNumbering}
 use Rattle.elab_scope.proofs.MentionLaws.{modules_step}
 use Rattle.elab_scope.proofs.numbers.read_modules.Goals as goal
 

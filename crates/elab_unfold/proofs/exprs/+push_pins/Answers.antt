@@ -1,8 +1,5 @@
-use Rattle.std.proofs.Common.{◌≡◌, ◌++◌, ◌+◌, ◌<◌, ◌≤◌, ap, sym, subst, ◌∙◌, refl, map, take, length, rules, arith}
+use Rattle.std.proofs.Common.{◌++◌, ap, ◌∙◌, map, rules}
 use Rattle.vlog_parse.specs.declared.tree.Expr.{the_lemmas}
-use Rattle.std.specs.List.{flat_map}
-use Rattle.std.proofs.lemmas.List.{take_all}
-use Rattle.elab_design.specs.Design.{sources, word_bits}
 use Rattle.elab_design.specs.Raw.{pin}
 use Rattle.elab_unfold.proofs.PinLaws.{constant_pins, all_parts}
 use Rattle.elab_unfold.proofs.RangeLaws.{part_sound}

@@ -1,4 +1,4 @@
-use Rattle.std.proofs.Common.{◌≡◌, ◌++◌, ◌∷◌, ◌+◌, ◌<◌, ◌≤◌, [], ap, sym, ◌∙◌, refl, map, take, length, arith}
+use Rattle.std.proofs.Common.{◌++◌, ap, ◌∙◌, map, take, arith}
 use Rattle.std.proofs.lemmas.List.{take_all}
 use Rattle.elab_design.specs.Design.{word_bits}
 use Rattle.elab_unfold.specs.Places.{bit_pin}

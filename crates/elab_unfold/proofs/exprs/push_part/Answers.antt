@@ -1,10 +1,7 @@
-use Rattle.std.proofs.Common.{◌≡◌, ◌++◌, ◌∷◌, ◌+◌, ◌<◌, ◌≤◌, ◌^◌, [], ap, sym, subst, ◌∙◌, refl, map, Some, None, arith}
-use Rattle.std.specs.List.{range_with_len}
-use Rattle.vlog_check.specs.Scope.{range_width, has_index, has_part}
-use Rattle.elab_unfold.specs.Places.{net_of, net_pin, own_width}
-use Rattle.elab_unfold.proofs.NetLaws.{net_known}
-use Rattle.elab_unfold.proofs.PinLaws.{net_pins, some_pins}
-use Rattle.elab_unfold.proofs.RangeLaws.{not_missing, known_range, or_some, net_passes, net_room, place_low, part_left, part_fits, part_inside}
+use Rattle.std.proofs.Common.{◌++◌, ap, sym, ◌∙◌, refl, arith}
+use Rattle.vlog_check.specs.Scope.{has_part}
+use Rattle.elab_unfold.proofs.PinLaws.{some_pins}
+use Rattle.elab_unfold.proofs.RangeLaws.{not_missing, or_some, net_passes, net_room, place_low, part_left, part_fits, part_inside}
 use Rattle.net_core.specs.WellFormed.{range_indices}
 use Rattle.flat_settle.proofs.NameLemmas.{range_width as length-range_indices}
 use Rattle.elab_unfold.proofs.exprs.push_part.Goals as goal

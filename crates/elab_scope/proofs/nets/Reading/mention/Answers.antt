@@ -1,6 +1,6 @@
 use Rattle.std.specs.Borrow.{Bor}
 use Rattle.vlog_parse.specs.declared.tree.Range.{Range}
-use Rattle.std.proofs.Common.{rules, ℕ, ◌≡◌, Bool, true, List, [], ◌∷◌, ◌++◌, map, Option, Some, None, refl, sym, ap, ◌∙◌, subst}
+use Rattle.std.proofs.Common.{rules, ℕ, List, Option, refl, sym, ap, ◌∙◌}
 use Rattle.std.proofs.lemmas.List.{map_push}
 use Rattle.elab_scope.specs.Nets.{rows_seen}
 use Rattle.elab_scope.proofs.MentionLaws.{mentioned_again, mentioned_nothing, mentioned_one}
