@@ -1,5 +1,5 @@
 -- The top and the modules below it, in the graph of the modules.
-use Rattle.std.proofs.Common.{◌≡◌, ℕ, zero, suc, ◌+◌, ◌-◌, ◌<◌, ◌≤◌, ◌↔◌, ◌⊎◌, inl, inr, Bool, true, List, [], ◌∷◌, length, get_or, slice_get, Some, refl, ap, sym, subst, ◌∙◌, arith}
+use Rattle.std.proofs.Common.{◌≡◌, ℕ, zero, suc, ◌+◌, ◌-◌, ◌<◌, ◌≤◌, ◌↔◌, ◌⊎◌, inl, inr, Bool, true, false, List, [], ◌∷◌, length, get_or, slice_get, Some, refl, ap, sym, subst, ◌∙◌, arith}
 use Rattle.std.specs.Prelude.{replicate}
 use Rattle.std.proofs.lemmas.List.{get_or-replicate}
 use Rattle.std.proofs.lemmas.Option.{slice_get_within, slice_get-get_or, same_Some}
@@ -82,4 +82,4 @@ module _ (tree : Tree) (wanted : List Bool) (graph : Graph) (is : IsInstanceGrap
   }
 
 pub marked_all : (marks : List Bool) (n k : ℕ) → marks ≡ replicate n true → k < n → is_marked marks k ≡ true
-marked_all marks n k is low = ap (λ xs. is_marked xs k) is ∙ get_or-replicate true n k false low
+marked_all marks n k is low = ap (λ xs. is_marked xs k) is ∙ get_or-replicate n k true false low
