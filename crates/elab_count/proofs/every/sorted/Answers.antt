@@ -1,4 +1,4 @@
-use Rattle.std.proofs.Common.{ap, sym, ◌∙◌, subst}
+use Rattle.std.proofs.Common.{subst}
 use Rattle.net_graph.specs.Graph.{IsOrder}
 use Rattle.elab_count.specs.Instances.{AreSorted}
 use Rattle.elab_count.proofs.SortLaws.{is_sorting}
