@@ -1,14 +1,12 @@
 -- Counts that are added up.
-use Rattle.std.proofs.Common.{◌≡◌, ℕ, ◌+◌, ◌*◌, ◌^◌, ◌<◌, ◌≤◌, max, min, List, [], ◌∷◌, ◌++◌, length, take, map, get_or, slice_get, Option, Some, None, refl, ap, sym, ◌∙◌, arith, add-zero, zero-add}
+use Rattle.std.proofs.Common.{◌≡◌, ℕ, ◌+◌, ◌<◌, ◌≤◌, List, [], ◌∷◌, ◌++◌, length, take, map, get_or, slice_get, Option, Some, None, refl, ap, sym, ◌∙◌, arith}
 use Rattle.std.specs.Borrow.{Bor}
 use Rattle.std.specs.Option.{option_map_or}
 use Rattle.std.proofs.lemmas.List.{map-append, take_all}
 use Rattle.std.proofs.lemmas.Option.{get_or_from_slice_get, slice_get-get_or}
 use Rattle.vlog_parse.specs.declared.tree.Module.{Module}
 use Rattle.vlog_parse.specs.declared.tree.Range.{Range}
-use Rattle.vlog_parse.specs.declared.tree.Inst.{Inst}
 use Rattle.vlog_check.proofs.LeastLaws.{take_step}
-use Rattle.elab_design.specs.Limits.{carried}
 use Rattle.elab_scope.specs.declared.amounts.Count.{Count}
 use Rattle.elab_scope.specs.declared.nets.Nets.{Nets}
 use Rattle.elab_scope.specs.Counting.{nothing, together, all_together, capped, net_count, count_at}

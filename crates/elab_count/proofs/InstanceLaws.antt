@@ -1,11 +1,11 @@
 -- The modules of which modules have instances.
-use Rattle.std.proofs.Common.{◌≡◌, ℕ, zero, suc, ◌+◌, ◌-◌, ◌<◌, ◌≤◌, ◌↔◌, Bool, true, false, cond, if◌then◌else◌, List, [], ◌∷◌, ◌++◌, length, take, map, get_or, filter_map, slice_get, Option, Some, None, refl, ap, sym, subst, ◌∙◌, arith, append-nil, true≢false, inl, inr, ◌^◌}
+use Rattle.std.proofs.Common.{◌≡◌, ℕ, zero, suc, ◌+◌, ◌-◌, ◌<◌, ◌≤◌, Bool, true, false, cond, List, [], ◌∷◌, ◌++◌, length, take, get_or, filter_map, slice_get, Option, Some, None, refl, ap, sym, subst, ◌∙◌, arith, append-nil, inl, inr, ◌^◌}
 use Rattle.std.specs.List.{cons_option}
 use Rattle.std.specs.Str.{bytes_eq}
 use Rattle.std.proofs.lemmas.List.{length-map, append_assoc, take_all, get_or_past}
 use Rattle.std.proofs.lemmas.List.Elements.{filter_map-append}
 use Rattle.std.proofs.lemmas.Bool.{cases_lt}
-use Rattle.std.proofs.lemmas.Option.{same_Some, slice_get_within, slice_get-get_or, get_or_from_slice_get}
+use Rattle.std.proofs.lemmas.Option.{same_Some, slice_get_within, slice_get-get_or}
 use Rattle.vlog_parse.specs.declared.tree.Tree.{Tree}
 use Rattle.vlog_parse.specs.declared.tree.Module.{Module}
 use Rattle.vlog_parse.specs.declared.tree.Item.{Item}
@@ -13,11 +13,10 @@ use Rattle.vlog_parse.specs.declared.tree.Item.TheVariants as items
 use Rattle.vlog_parse.specs.declared.tree.Inst.{Inst}
 use Rattle.vlog_check.specs.declared.primitive.Primitive.{Primitive}
 use Rattle.vlog_check.specs.Checked.{Contains}
-use Rattle.vlog_check.specs.Scope.{value_of, numbered_from, number_among, module_names, module_number, cell_of}
+use Rattle.vlog_check.specs.Scope.{value_of, numbered_from, module_names, module_number, cell_of}
 use Rattle.vlog_check.proofs.LeastLaws.{take_step}
 use Rattle.net_core.proofs.ListLemmas.{filter_map_some, filter_map_at}
 use Rattle.net_graph.specs.declared.graph.Graph.{Graph}
-use Rattle.net_graph.specs.Graph.{Leads, node_count}
 use Rattle.net_graph.specs.Reach.{is_marked, IsIn}
 use Rattle.net_graph.specs.Rows.{AreRows}
 use Rattle.flat_settle.specs.Tables.{row_of}

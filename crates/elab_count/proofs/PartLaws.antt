@@ -1,5 +1,5 @@
 -- The top and the modules below it, in the graph of the modules.
-use Rattle.std.proofs.Common.{◌≡◌, ℕ, zero, suc, ◌+◌, ◌-◌, ◌<◌, ◌≤◌, ◌↔◌, ◌⊎◌, inl, inr, Bool, true, List, [], ◌∷◌, length, get_or, slice_get, Some, refl, ap, sym, subst, ◌∙◌, arith}
+use Rattle.std.proofs.Common.{◌≡◌, ℕ, zero, suc, ◌+◌, ◌-◌, ◌<◌, ◌↔◌, inl, inr, Bool, true, false, List, [], ◌∷◌, length, get_or, slice_get, Some, ap, sym, subst, ◌∙◌, arith}
 use Rattle.std.specs.Prelude.{replicate}
 use Rattle.std.proofs.lemmas.List.{get_or-replicate}
 use Rattle.std.proofs.lemmas.Option.{slice_get_within, slice_get-get_or, same_Some}
@@ -50,7 +50,6 @@ module _ (tree : Tree) (wanted : List Bool) (graph : Graph) (is : IsInstanceGrap
 
   -- a cycle would be a wanted module that contains itself
   module _ (finite : (n : ℕ) → is_marked wanted n ≡ true → IsBelow tree n n → ⊥) (nodes : List ℕ) (cycle : IsCycle (Leads graph) nodes) where
-
     at : (i : ℕ) → i < length nodes → slice_get nodes i ≡ Some (get_or nodes i 0)
     at i low = slice_get-get_or nodes i 0 low
 
@@ -82,4 +81,4 @@ module _ (tree : Tree) (wanted : List Bool) (graph : Graph) (is : IsInstanceGrap
   }
 
 pub marked_all : (marks : List Bool) (n k : ℕ) → marks ≡ replicate n true → k < n → is_marked marks k ≡ true
-marked_all marks n k is low = ap (λ xs. is_marked xs k) is ∙ get_or-replicate true n k false low
+marked_all marks n k is low = ap (λ xs. is_marked xs k) is ∙ get_or-replicate n k true false low

@@ -1,16 +1,15 @@
 -- The table of counts, module by module.
-use Rattle.std.proofs.Common.{◌≡◌, ◌≢◌, ℕ, zero, suc, ◌+◌, ◌<◌, ◌≤◌, ◌↔◌, ◌⊎◌, inl, inr, Bool, true, false, List, [], ◌∷◌, length, map, slice_get, Option, Some, None, refl, ap, sym, subst, ◌∙◌, arith, true≢false, length-set}
+use Rattle.std.proofs.Common.{◌≡◌, ◌≢◌, ℕ, suc, ◌+◌, ◌<◌, ◌≤◌, ◌↔◌, inl, inr, Bool, true, false, List, [], ◌∷◌, length, map, slice_get, Option, Some, None, refl, ap, sym, subst, ◌∙◌, arith, true≢false, length-set}
 use Rattle.std.specs.List.{slice_set}
 use Rattle.std.specs.Option.{option_map_or}
 use Rattle.std.proofs.lemmas.Bool.{cases_eq}
-use Rattle.std.proofs.lemmas.Option.{slice_get_within, slice_get-get_or, same_Some}
+use Rattle.std.proofs.lemmas.Option.{slice_get_within, same_Some}
 use Rattle.vlog_parse.specs.declared.tree.Tree.{Tree}
 use Rattle.vlog_parse.specs.declared.tree.Module.{Module}
 use Rattle.vlog_parse.specs.declared.tree.Item.{Item}
 use Rattle.vlog_parse.specs.declared.tree.Item.TheVariants as items
 use Rattle.vlog_parse.specs.declared.tree.Inst.{Inst}
 use Rattle.vlog_parse.specs.ReadTree.{In}
-use Rattle.vlog_check.specs.Checked.{Contains}
 use Rattle.vlog_check.specs.Scope.{module_number, cell_of}
 use Rattle.net_graph.specs.Reach.{is_marked}
 use Rattle.net_graph.proofs.ListLemmas.{slice_get_set_same, slice_get_set_other}
@@ -100,11 +99,11 @@ module _ (tree : Tree) (wanted : List Bool) (order : List (ℕ × ℕ)) (sorted 
               let e : m ≡ x = same_Some m x (sym there ∙ ap (slice_get tree.modules) (sym is) ∙ here) in
               ap (slice_get longer) is ∙ own ∙ ap (λ y. Some (Some (capped (module_count tree table y)))) e ∙ ap (λ c. Some (Some (capped c))) (stays j s n x (omega (arith, low)) on wants here))
           | inr other ↦ elim (cases_eq j i) [
-              | inl same ↦ absurd (
-                  let e : (s, n) ≡ (r, k) = same_Some (s, n) (r, k) (sym on ∙ ap (slice_get order) same ∙ at) in
-                  other (ap (λ (p : ℕ × ℕ). p.1) e))
-              | inr early ↦ slice_get_set_other table k n (Some entry) other ∙ before.each j s n x (omega (arith, low, early)) on wants here ∙ ap (λ c. Some (Some (capped c))) (stays j s n x (omega (arith, low)) on wants here)
-            ]
+            | inl same ↦ absurd (
+                let e : (s, n) ≡ (r, k) = same_Some (s, n) (r, k) (sym on ∙ ap (slice_get order) same ∙ at) in
+                other (ap (λ (p : ℕ × ℕ). p.1) e))
+            | inr early ↦ slice_get_set_other table k n (Some entry) other ∙ before.each j s n x (omega (arith, low, early)) on wants here ∙ ap (λ c. Some (Some (capped c))) (stays j s n x (omega (arith, low)) on wants here)
+          ]
         ]
 
         only : (n : ℕ) (c : Count) → slice_get longer n ≡ Some (Some c) → is_marked wanted n ≡ true

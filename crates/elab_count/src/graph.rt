@@ -50,11 +50,7 @@ fn push_row(
 
 /// The graph of the modules of which some are wanted: an edge leads from the module of an instance to
 /// a wanted module that has the instance.
-pub fn instance_graph(
-    alloc: Global,
-    modules: &Modules,
-    wanted: &[bool],
-) -> Result<Graph, NoMemory>
+pub fn instance_graph(alloc: Global, modules: &Modules, wanted: &[bool]) -> Result<Graph, NoMemory>
     requires numbered { AreNumbered modules.now }
     requires few { length (modules.now.tree.now).modules < 2 ^ 32 - 1 }
     requires size { length wanted.now ≡ length (modules.now.tree.now).modules }

@@ -104,12 +104,7 @@ fn count_inner(nets: &Nets, counts: &[Option<Count>], inst: &Inst, number: usize
     links.with(counted(counts, number).behind(inst.name.bytes().len()))
 }
 
-fn count_inst(
-    nets: &Nets,
-    modules: &Modules,
-    counts: &[Option<Count>],
-    inst: &Inst,
-) -> Count
+fn count_inst(nets: &Nets, modules: &Modules, counts: &[Option<Count>], inst: &Inst) -> Count
     requires numbered { AreNumbered modules.now }
     requires capped { AreCapped counts.now }
     ensures { (m : ModuleOf) → AreNets m nets.now → result ≡ counting.capped (counting.part_count counts.now m inst.now (counting.part_of modules.now.tree.now inst.now)) }
@@ -121,12 +116,7 @@ fn count_inst(
     }
 }
 
-fn count_item(
-    nets: &Nets,
-    modules: &Modules,
-    counts: &[Option<Count>],
-    item: &Item,
-) -> Count
+fn count_item(nets: &Nets, modules: &Modules, counts: &[Option<Count>], item: &Item) -> Count
     requires numbered { AreNumbered modules.now }
     requires capped { AreCapped counts.now }
     ensures { (m : ModuleOf) → AreNets m nets.now → result ≡ counting.capped (counting.item_count modules.now.tree.now counts.now m item.now) }

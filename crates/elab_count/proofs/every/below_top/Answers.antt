@@ -1,4 +1,4 @@
-use Rattle.std.proofs.Common.{rules, ◌≡◌, ◌<◌, ℕ, true, List, [], ◌∷◌, length, ap, sym, ◌∙◌, arith}
+use Rattle.std.proofs.Common.{rules, ◌≡◌, true, [], ◌∷◌, length, ◌∙◌}
 use Rattle.std.specs.Prelude.{replicate}
 use Rattle.elab_count.proofs.PartLaws.{parts_reached, marked_all}
 use Rattle.elab_count.proofs.every.below_top.Goals as goal

@@ -1,4 +1,4 @@
-use Rattle.std.proofs.Common.{◌≡◌, ℕ, take}
+use Rattle.std.proofs.Common.{◌≡◌, take}
 use Rattle.elab_count.proofs.SortLaws.{numbered}
 use Rattle.elab_count.proofs.every.by_rank.Given as goal
 

@@ -1,4 +1,4 @@
-use Rattle.std.proofs.Common.{rules, ◌≡◌, ◌<◌, ◌≤◌, ℕ, List, true, length, ap, sym, subst, ◌∙◌, arith}
+use Rattle.std.proofs.Common.{rules, ◌≡◌, length, ap, subst, arith}
 use Rattle.vlog_parse.specs.declared.tree.Tree.{Tree}
 use Rattle.elab_scope.specs.Counting.{AreCounts}
 use Rattle.elab_count.specs.Instances.{AreInOrder}

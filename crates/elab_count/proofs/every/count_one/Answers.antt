@@ -1,4 +1,4 @@
-use Rattle.std.proofs.Common.{rules, ◌≡◌, true, Some, inr, length, arith, ap, sym, ◌∙◌}
+use Rattle.std.proofs.Common.{rules, ◌≡◌, true, Some, inr, length, arith, ap, ◌∙◌}
 use Rattle.std.specs.List.{slice_set}
 use Rattle.vlog_check.proofs.LeastLaws.{at_index}
 use Rattle.elab_scope.specs.Counting.{capped, module_count}
@@ -11,5 +11,9 @@ returns c =
     let k = c.args.k in
     let table = c.args.table.now.items in
     let wanted : c.args.wanted ≡ true = search rules in
-    inr (wanted, m, at_index c.as_slice.result.now tree.modules k m c.as_slice.ensures (omega (arith, ap length c.as_slice.ensures, c.requires.within)) c.index-as_slice-k.is,
-        ap (λ count. slice_set table k (Some count)) (c.in_ok-count.ensures ∙ ap (λ t. capped (module_count tree t m)) c.as_slice-2.ensures.value))
+    inr (
+      wanted,
+      m,
+      at_index c.as_slice.result.now tree.modules k m c.as_slice.ensures (omega (arith, ap length c.as_slice.ensures, c.requires.within)) c.index-as_slice-k.is,
+      ap (λ count. slice_set table k (Some count)) (c.in_ok-count.ensures ∙ ap (λ t. capped (module_count tree t m)) c.as_slice-2.ensures.value),
+    )

@@ -1,4 +1,4 @@
-use Rattle.std.proofs.Common.{◌≡◌, ap, ◌∙◌, arith, refl}
+use Rattle.std.proofs.Common.{arith, refl}
 use Rattle.elab_count.proofs.WidthLaws.{pins_more}
 use Rattle.elab_count.proofs.exprs.width_of_named.Goals as goal
 

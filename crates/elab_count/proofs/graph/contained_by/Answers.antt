@@ -1,4 +1,4 @@
-use Rattle.std.proofs.Common.{◌≡◌, Some, sym, ap, ◌∙◌, arith}
+use Rattle.std.proofs.Common.{Some, sym, ap, ◌∙◌, arith}
 use Rattle.elab_count.proofs.InstanceLaws.{part_low}
 use Rattle.elab_count.proofs.graph.contained_by.Goals as goal
 

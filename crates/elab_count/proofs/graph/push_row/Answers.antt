@@ -1,6 +1,6 @@
-use Rattle.std.proofs.Common.{◌≡◌, ℕ, Some, None, sym, ap, ◌∙◌, ◌++◌, append-nil}
+use Rattle.std.proofs.Common.{ℕ, Some, None, sym, ap, ◌∙◌, append-nil}
 use Rattle.std.specs.Global.{Vec}
-use Rattle.elab_count.proofs.InstanceLaws.{row_step, row_all, row_none}
+use Rattle.elab_count.proofs.InstanceLaws.{row_step}
 use Rattle.elab_count.proofs.graph.push_row.Goals as goal
 use Rattle.elab_count.proofs.graph.push_row.Goals.{in-Some+in_ok-push, in_default}
 
