@@ -5,5 +5,4 @@ mod clock;
 mod flatten_design;
 mod limits;
 
-
 pub use flatten_design::flatten;
