@@ -9,17 +9,23 @@ ghost use Rattle.elab_flat.specs.Above.{IsClockIn};
 
 use elab_scope::read_nets;
 use elab_unfold::read_directions;
-use ila_base::NoMemory;
+use ila_base::{Name, NoMemory};
 use std::alloc::Global;
 use vlog_check::range_width;
 use vlog_parse::{Dir, Module, Range};
+
+fn is_named(port: &Name, name: &[u8]) -> bool
+    ensures { IsTrue result ↔ (port.now ≡ name.now) }
+{
+    port.bytes() == name
+}
 
 // Whether the name stands in the header.
 fn is_port(m: &Module, name: &[u8]) -> bool
     ensures { IsTrue result ↔ In m.now.ports name.now }
 {
     for port in m.ports.as_slice() {
-        if port.bytes() == name {
+        if is_named(port, name) {
             return true;
         }
     }

@@ -1,8 +1,9 @@
-ghost use Rattle.std.specs.Prelude.{◌≡◌, ℕ, ◌<◌, length, slice_get, Some, None, IfOk, IfErr, MatchOption};
+ghost use Rattle.std.specs.Prelude.{◌≡◌, ◌<◌, length, Some, None, IfOk, IfErr, MatchOption};
 ghost use Rattle.ila_base.specs.declared.refusal.NetRefusal.TheVariants as refusals;
 ghost use Rattle.net_core.specs.Netlist.{parts_of};
 ghost use Rattle.net_core.specs.WellFormed.{IsFlat};
 ghost use Rattle.vlog_lex.specs.Cutting.{StopsFor};
+ghost use Rattle.vlog_parse.specs.ReadTree.{IsReadTree};
 ghost use Rattle.vlog_check.specs.Scope.{module_number};
 ghost use Rattle.vlog_check.specs.Checked.{IsChecked};
 ghost use Rattle.flat_settle.specs.Raw.{IsUnfolded};
@@ -12,7 +13,6 @@ ghost use Rattle.elab_design.specs.Elaborates.{Elaborates};
 ghost use Rattle.elab_flat.specs.declared.limits.Above.{Above as AboveOf};
 ghost use Rattle.elab_flat.specs.Above.{IsClockIn, IsAbove, IsFirstAbove, IsFaultBefore, IsUnsettled, nowhere};
 ghost use Rattle.elab_scope.specs.Counting.{count_at};
-ghost use Rattle.vlog_parse.specs.declared.tree.Module.{Module as ModuleOf};
 ghost use Rattle.flat_settle.specs.declared.raw.Raw.{Raw as RawOf};
 
 use crate::clock::is_clock;
@@ -33,12 +33,13 @@ use vlog_parse::{Module, Tree};
 // The number of the top among the modules of a checked tree.
 fn top_number(alloc: Global, tree: &Tree, name: &[u8]) -> Result<usize, NoMemory>
     requires { IsChecked tree.now name.now }
-    ensures { IfOk result (λ top. module_number tree.now name.now ≡ Some top) }
+    ensures number { IfOk result (λ top. module_number tree.now name.now ≡ Some top) }
+    ensures low { IfOk result (λ top. top < length tree.now.modules) }
 {
     let modules = read_modules(alloc, tree)?;
     match modules.numbers.get(name) {
         Some(number) => Ok(number),
-        None => Ok(0),
+        None => unreachable!(),
     }
 }
 
@@ -103,24 +104,52 @@ fn settled(alloc: Global, raw: Raw) -> Result<Flat, NetStop>
     }
 }
 
-// Why a checked design with these counts is refused before it is unfolded.
+// What a table says of a module.
+fn count_of(counts: &Counts, number: usize) -> Count
+    ensures { result ≡ count_at counts.now.table.items number }
+{
+    match counts.table.get(number) {
+        Some(Some(count)) => *count,
+        _ => Count::ZERO,
+    }
+}
+
+// Why a design with this top and this count is refused before it is unfolded.
 fn fault_before(
     alloc: Global,
-    tree: &Tree,
-    top: usize,
+    top: &Module,
     clock: &[u8],
-    counts: &Counts,
+    count: Count,
 ) -> Result<Option<NetFault>, NoMemory>
-    requires { top < length tree.now.modules }
-    ensures { IfOk result (λ found. (m : ModuleOf) → slice_get tree.now.modules top ≡ Some m → IsFaultBefore m clock.now (count_at counts.now.table.items top) found) }
+    ensures { IfOk result (IsFaultBefore top.now clock.now count) }
 {
-    if let Some(found) = clock_fault(alloc, &tree.modules.as_slice()[top], clock)? {
-        return Ok(Some(found));
+    match clock_fault(alloc, top, clock)? {
+        Some(found) => Ok(Some(found)),
+        None => Ok(limit_fault(count)),
     }
-    let count = counts.table.get(top).copied().flatten();
-    match count {
-        Some(count) => Ok(limit_fault(count)),
-        None => Ok(None),
+}
+
+// The flat netlist of a checked tree with this top and this clock port.
+fn flatten_tree(alloc: Global, tree: &Tree, name: &[u8], clock: &[u8]) -> Result<Flat, NetStop>
+    requires read { IsReadTree tree.now }
+    requires checked { IsChecked tree.now name.now }
+    ensures found { IfOk result (Elaborates (record { tree = tree.now; top = name.now; clock = clock.now })) }
+    ensures kept { IfOk result IsFlat }
+    ensures refused { IfErr result (StopsFor (IsElabFault (record { tree = tree.now; top = name.now; clock = clock.now }))) }
+{
+    elaborates();
+    has_counts();
+    raw_is_unfolded();
+    counts_are_amounts();
+    let top = top_number(alloc, tree, name)?;
+    let counts = count_all(alloc, tree, top)?;
+    let module = &tree.modules.as_slice()[top];
+    match fault_before(alloc, module, clock, count_of(&counts, top))? {
+        Some(found) => Err(NetStop::Refused(found)),
+        None => {
+            let raw = unfold(alloc, tree, name, clock, top, &counts)?;
+            settled(alloc, raw)
+        }
     }
 }
 
@@ -135,25 +164,6 @@ pub fn flatten(alloc: Global, design: &Checked, clock: &str) -> Result<Flat, Net
     ensures kept { IfOk result IsFlat }
     ensures refused { IfErr result (StopsFor (IsElabFault (record { tree = design.now.tree; top = design.now.top; clock = clock.now }))) }
 {
-    elaborates();
-    has_counts();
-    raw_is_unfolded();
-    counts_are_amounts();
-    let tree = design.tree();
     let name = design.top().bytes();
-    let Ok(top) = top_number(alloc, tree, name) else {
-        return Err(NetStop::NoMemory);
-    };
-    let Ok(counts) = count_all(alloc, tree, top) else {
-        return Err(NetStop::NoMemory);
-    };
-    match fault_before(alloc, tree, top, clock.as_bytes(), &counts) {
-        Err(_) => return Err(NetStop::NoMemory),
-        Ok(Some(found)) => return Err(NetStop::Refused(found)),
-        Ok(None) => {}
-    }
-    match unfold(alloc, tree, name, clock.as_bytes(), top, &counts) {
-        Err(_) => Err(NetStop::NoMemory),
-        Ok(raw) => settled(alloc, raw),
-    }
+    flatten_tree(alloc, design.tree(), name, clock.as_bytes())
 }

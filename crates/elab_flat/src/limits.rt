@@ -1,7 +1,6 @@
 //! The limits on how large a design is.
 
-ghost use Rattle.std.specs.Prelude.{◌≡◌};
-ghost use Rattle.elab_design.specs.Limits.{greatest};
+ghost use Rattle.std.specs.Prelude.{◌≡◌, Some};
 ghost use Rattle.elab_flat.specs.Above.{IsFirstAbove};
 
 use elab_scope::Count;
@@ -20,24 +19,24 @@ pub fn first_above(count: Count) -> Option<Above>
     ensures { IsFirstAbove count result }
 {
     if count.depth > 256 {
-        return above(LimitKind::Depth, count.depth);
+        return over(LimitKind::Depth, count.depth);
     }
     if count.cells > 1_048_576 {
-        return above(LimitKind::Cells, count.cells);
+        return over(LimitKind::Cells, count.cells);
     }
     if count.pins > 16_777_216 {
-        return above(LimitKind::Pins, count.pins);
+        return over(LimitKind::Pins, count.pins);
     }
     if count.nets > 1_048_576 {
-        return above(LimitKind::Nets, count.nets);
+        return over(LimitKind::Nets, count.nets);
     }
     if count.bytes > 67_108_864 {
-        return above(LimitKind::AllNames, count.bytes);
+        return over(LimitKind::AllNames, count.bytes);
     }
     None
 }
 
-fn above(kind: LimitKind, amount: u64) -> Option<Above>
+fn over(kind: LimitKind, amount: u64) -> Option<Above>
     ensures { result ≡ Some (record { kind = kind; amount = amount }) }
 {
     Some(Above { kind, amount })
