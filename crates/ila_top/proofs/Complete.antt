@@ -1,5 +1,5 @@
 -- Where no sentence of a refusal holds and no count has risen, a simulation is done, or memory wasn't found.
-use Rattle.std.proofs.Common.{◌≡◌, ℕ, List, Option, Some, None}
+use Rattle.std.proofs.Common.{◌≡◌, ℕ, List, Option, Some, None, subst}
 use Rattle.ila_base.specs.declared.refusal.StimRefusal.TheVariants as stim
 use Rattle.ila_top.specs.declared.status.Status.{Status}
 use Rattle.ila_top.specs.declared.status.Status.TheVariants.{Done, Usage, Netlist, Project, Tsm, Resource, Settings, Stimulus, NoFile, ShelfFault, ReadFault, WriteFault, NoMemory}
@@ -32,4 +32,5 @@ pub complete : (words : List (List ℕ)) (sim : SimWords) (before after : Outsid
     → IsClear sim before after → IsDone status
 complete words sim before after Usage cause named clear = none_is_some (sim_words words) sim cause named
 complete words sim before after status (own, is, cause) named clear =
-    done_if_clear sim before after status (rw (same_words words sim own named is) cause) clear
+    let C : SimWords → Type 0 = λ s. IsClear s before after in
+    done_if_clear own before after status cause (subst C (same_words words sim own named is) clear)

@@ -1,6 +1,6 @@
 -- Why a netlist is refused, from the one call to the other.
-use Rattle.std.proofs.Common.{ℕ, List, inl, inr}
-use Rattle.std.specs.Prelude.{Some, None}
+use Rattle.std.proofs.Common.{ℕ, List, Result, Ok, Err, inl, inr}
+use Rattle.std.specs.Prelude.{Some, None, IfErr}
 use Rattle.net_core.specs.Netlist.{Netlist}
 use Rattle.vlog_lex.specs.declared.token.NetFault.{NetFault}
 use Rattle.vlog_lex.specs.declared.token.NetStop.{NetStop}
@@ -28,12 +28,22 @@ module _ (text top clock : List ℕ) where
   pub parse_refused : (tokens : List Token) (stop : NetStop) → IsReading text tokens None → StopsFor (IsRefusal text tokens) stop → StopsFor (IsTextFault text top clock) stop
   parse_refused tokens stop reading = stops_too _ _ (λ fault refused. no_tree tokens reading refused) stop
 
+  pub parse_refused_by : {X : Type 0} (tokens : List Token) (r : Result X NetStop) → IsReading text tokens None → IfErr r (StopsFor (IsRefusal text tokens))
+      → IfErr r (StopsFor (IsTextFault text top clock))
+  parse_refused_by tokens (Ok _) reading refused = tt
+  parse_refused_by tokens (Err stop) reading refused = parse_refused tokens stop reading refused
+
   pub check_refused : (tree : Tree) (stop : NetStop) → StandsForTree text tree → StopsFor (IsRefused tree top) stop → StopsFor (IsTextFault text top clock) stop
   check_refused tree stop stands = stops_too _ _ (λ fault refused. unchecked tree stands refused) stop
 
   pub unfold_refused : (tree : Tree) (stop : NetStop) → StandsForTree text tree → IsChecked tree top → StopsFor (IsElabFault (design_of tree top clock)) stop
       → StopsFor (IsTextFault text top clock) stop
   unfold_refused tree stop stands checked = stops_too _ _ (λ fault refused. not_unfolded tree stands checked refused) stop
+
+  pub unfold_refused_by : {X : Type 0} (tree : Tree) (r : Result X NetStop) → StandsForTree text tree → IsChecked tree top
+      → IfErr r (StopsFor (IsElabFault (design_of tree top clock))) → IfErr r (StopsFor (IsTextFault text top clock))
+  unfold_refused_by tree (Ok _) stands checked refused = tt
+  unfold_refused_by tree (Err stop) stands checked refused = unfold_refused tree stop stands checked refused
 
   pub loop_refused : (tree : Tree) (net : Netlist) (stop : NetStop) → IsNetOf text (design_of tree top clock) net → StopsFor (IsLoopFault net) stop
       → StopsFor (IsTextFault text top clock) stop

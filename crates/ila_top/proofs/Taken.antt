@@ -1,8 +1,9 @@
 -- The rows that were taken of a stimulus, where it is told, and why the line behind them is refused.
-use Rattle.std.proofs.Common.{◌≡◌, ℕ, Bool, List, ◌∷◌, ◌++◌, length, Option, Some, None, refl, ◌∙◌, ap, subst, inl}
+use Rattle.std.proofs.Common.{◌≡◌, ℕ, ◌≤◌, Bool, List, ◌∷◌, ◌++◌, length, Option, Some, None, ◌⊎◌, refl, sym, ◌∙◌, ap, subst, inl, inr, arith}
 use Rattle.std.specs.Prelude.{sum}
 use Rattle.std.specs.Str.Lines.{lines}
 use Rattle.std.specs.Io.KnownBytes.{Keeps, IsAtEnd}
+use Rattle.ila_base.specs.Faults.{Rose}
 use Rattle.ila_base.specs.declared.refusal.StimRefusal.{StimRefusal}
 use Rattle.ila_base.specs.declared.refusal.StimRefusal.TheVariants.{Header, Line, Limit}
 use Rattle.vlog_parse.specs.declared.tree.Module.{Module}
@@ -70,6 +71,16 @@ no_header reading left (Limit n) refuses is = absurd (cc is)
 
 pub behind_header : (before : Reading) (start : Option (List ℕ)) (rows : List (List Bool)) (why : StimRefusal) → IsRefusedBehind before start rows why → why ≡ Header → ⊥
 behind_header before start rows why behind = no_header behind.reading (rest behind.reading behind.later) why behind.refuses
+
+-- a reader that had refused nothing refuses a line
+pub only_behind : (before : Reading) (start : Option (List ℕ)) (rows : List (List Bool)) (why : StimRefusal) → before.refused ≡ None
+    → ((before.refused ≡ Some why) ⊎ IsRefusedBehind before start rows why) → IsRefusedBehind before start rows why
+only_behind before start rows why none (inl some) = absurd (let e : None ≡ Some why = sym none ∙ some in cc e)
+only_behind before start rows why none (inr behind) = behind
+
+-- a count that rose since a later moment rose since an earlier one
+pub rose_since : (a b c : ℕ) → a ≤ b → Rose b c → Rose a c
+rose_since a b c before rose = omega (arith, before, rose)
 
 -- A line behind a header is refused: what stands then.
 pub answer_refused : (d : Design) (top : Module) (before after : Streams) (why : StimRefusal) → (why ≡ Header → ⊥) → (rows : List (List Bool))

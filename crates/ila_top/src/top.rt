@@ -8,6 +8,33 @@ use crate::status::Status;
 use ila_base::{Shelf, Sink, Source};
 use std::alloc::Global;
 
+// Does what the words say, and tells how it ended.
+fn answer<H: Shelf, S: Source, K: Sink>(
+    alloc: Global,
+    words: &[String],
+    shelf: &mut H,
+    stimulus: &mut S,
+    trace: &mut K,
+) -> Status
+    ensures cause { Cause (map string_bytes words.now)
+        (record { files = H.files shelf.old; shelf_faults = H.faults shelf.old; left = S.left stimulus.old; read_faults = S.faults stimulus.old; written = K.written trace.old; write_faults = K.faults trace.old })
+        (record { files = H.files shelf.new; shelf_faults = H.faults shelf.new; left = S.left stimulus.new; read_faults = S.faults stimulus.new; written = K.written trace.new; write_faults = K.faults trace.new })
+        result }
+    ensures complete { (sim : SimWords) → sim_words (map string_bytes words.now) ≡ Some sim → IsClear sim
+        (record { files = H.files shelf.old; shelf_faults = H.faults shelf.old; left = S.left stimulus.old; read_faults = S.faults stimulus.old; written = K.written trace.old; write_faults = K.faults trace.old })
+        (record { files = H.files shelf.new; shelf_faults = H.faults shelf.new; left = S.left stimulus.new; read_faults = S.faults stimulus.new; written = K.written trace.new; write_faults = K.faults trace.new })
+        → IsDone result }
+    ensures stands { Stands
+        (record { files = H.files shelf.old; shelf_faults = H.faults shelf.old; left = S.left stimulus.old; read_faults = S.faults stimulus.old; written = K.written trace.old; write_faults = K.faults trace.old })
+        (record { files = H.files shelf.new; shelf_faults = H.faults shelf.new; left = S.left stimulus.new; read_faults = S.faults stimulus.new; written = K.written trace.new; write_faults = K.faults trace.new })
+        result }
+{
+    match sim_of(words) {
+        Some(words) => sim(alloc, &words, shelf, stimulus, trace),
+        None => Status::Usage,
+    }
+}
+
 /// Does what the words say, which are those of the command line behind the program's name: `sim
 /// NETLIST TOP CLOCK` simulates a netlist over the stimulus and writes its outputs to the trace. For
 /// each status but Done a line goes to the error sink, whose faults change no status.
@@ -39,9 +66,6 @@ pub fn ila<H: Shelf, S: Source, K: Sink, E: Sink>(
     ensures line { IsReported (E.written errors.old) (E.written errors.new) (E.faults errors.old) (E.faults errors.new) result [] }
     ensures later { E.faults errors.old ≤ E.faults errors.new }
 {
-    let status = match sim_of(words) {
-        Some(words) => sim(alloc, &words, shelf, stimulus, trace),
-        None => Status::Usage,
-    };
+    let status = answer(alloc, words, shelf, stimulus, trace);
     report(errors, status)
 }
