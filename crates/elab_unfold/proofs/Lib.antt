@@ -6,3 +6,7 @@ pub mod LeafLaws
 pub mod PortLaws
 pub mod DeepLaws
 pub mod ShapeLaws
+pub mod CountLaws
+pub mod DeadLaws
+pub mod SmallLaws
+pub mod PlanLaws
