@@ -6,3 +6,4 @@ pub mod LeafLaws
 pub mod PortLaws
 pub mod DeepLaws
 pub mod ShapeLaws
+pub mod RawLaws
