@@ -10,3 +10,4 @@ pub mod CountLaws
 pub mod DeadLaws
 pub mod SmallLaws
 pub mod PlanLaws
+pub mod RawLaws

@@ -1,17 +1,12 @@
--- The ports and the clock of a design unfolded, and what is asked of its modules.
-use Rattle.std.specs.Prelude.{◌≡◌, ℕ, ◌+◌, ◌≤◌, List, [], ◌∷◌, slice_get, Option, Some, None, if◌then◌else◌}
+-- The ports and the clock of a design unfolded, and the limits of its counts.
+use Rattle.std.specs.Prelude.{ℕ, ◌+◌, ◌≤◌, List, [], ◌∷◌, Option, Some, None, if◌then◌else◌}
 use Rattle.std.specs.Str.{bytes_eq}
 use Rattle.net_core.specs.declared.parts.NetId.{NetId}
 use Rattle.net_core.specs.declared.parts.Port.{Port}
-use Rattle.vlog_parse.specs.declared.tree.Module.{Module}
-use Rattle.vlog_parse.specs.declared.tree.Item.TheVariants as items
-use Rattle.vlog_parse.specs.declared.tree.Inst.{Inst}
-use Rattle.vlog_parse.specs.ReadTree.{In}
 use Rattle.elab_design.specs.Raw.{net_id}
 use Rattle.elab_scope.specs.declared.amounts.Count.{Count}
 use Rattle.elab_unfold.specs.declared.places.Net.{Net}
 use Rattle.elab_unfold.specs.declared.shape.PortNet.{PortNet}
-use Rattle.elab_unfold.specs.declared.shape.Plan.{Plan}
 
 -- the ports with these numbers on
 abbrev pub ports_of : ℕ → List PortNet → List Port
@@ -26,10 +21,6 @@ first_bit (Some net) = net_id net.first
 abbrev pub clock_of : List PortNet → List ℕ → NetId
 clock_of [] name = net_id 0
 clock_of (port ∷ ports) name = if bytes_eq port.name.now name then first_bit port.net else clock_of ports name
-
--- instances of one module have different names
-abbrev pub Differ : Plan → Type 0
-Differ plan = (m : Module) (i j : ℕ) (a b : Inst) → In plan.tree.now.modules m → slice_get m.items i ≡ Some (items.Inst a) → slice_get m.items j ≡ Some (items.Inst b) → a.name ≡ b.name → i ≡ j
 
 -- a count's net bits and depth are within the limits
 pub record IsWithin (c : Count) : Type 0 where

@@ -136,8 +136,8 @@ fn push_border(
     Ok(())
 }
 
-// What is kept of a module with this number, which is the top or below it.
-fn shape_at<'p, 'a>(plan: &'p Plan<'a>, number: usize) -> &'p Shape<'a>
+/// What is kept of a module with this number, which is the top or below it.
+pub fn shape_at<'p, 'a>(plan: &'p Plan<'a>, number: usize) -> &'p Shape<'a>
     requires plan { IsPlan plan.now }
     requires part { IsPart plan.now.tree.now plan.now.top number }
     ensures at { slice_get plan.now.shapes.items number ≡ Some result.now }

@@ -6,8 +6,9 @@ ghost use Rattle.elab_scope.specs.Counting.{AreCounts, count_at};
 ghost use Rattle.elab_design.specs.Limits.{HasClock};
 ghost use Rattle.elab_design.specs.Raw.{IsRawOf};
 ghost use Rattle.elab_unfold.specs.Shapes.{IsPlan, shape_size, design_of};
-ghost use Rattle.elab_unfold.specs.Parts.{ports_of, clock_of, Differ, IsWithin};
+ghost use Rattle.elab_unfold.specs.Parts.{ports_of, clock_of, IsWithin};
 
+use crate::deep::shape_at;
 use crate::read_plan::read_plan;
 use crate::shape::{Plan, PortNet};
 use crate::state::State;
@@ -53,7 +54,7 @@ fn clock_of(ports: &[PortNet], name: &[u8]) -> NetId
 fn raw_of(alloc: Global, plan: &Plan) -> Result<Raw, NoMemory>
     requires plan { IsPlan plan.now }
     requires few { shape_size plan.now plan.now.top ≤ 1048576 }
-    requires differ { Differ plan.now }
+    requires checked { IsChecked plan.now.tree.now plan.now.name.now }
     requires clock { HasClock (design_of plan.now) }
     requires top { module_number plan.now.tree.now plan.now.name.now ≡ Some plan.now.top }
     ensures { IfOk result (IsRawOf (design_of plan.now)) }
@@ -64,7 +65,7 @@ fn raw_of(alloc: Global, plan: &Plan) -> Result<Raw, NoMemory>
         nets: _,
         prefix: _,
     } = unfold_plan(alloc, plan)?;
-    let ports = plan.shapes[plan.top].ports.as_slice();
+    let ports = shape_at(plan, plan.top).ports.as_slice();
     Ok(Raw {
         groups,
         cells,
