@@ -1,5 +1,5 @@
 -- What holds of each kind of limit.
-use Rattle.std.proofs.Common.{zero, suc, ◌<◌, ◌≤◌, List, [], ◌∷◌, refl, subst, arith}
+use Rattle.std.proofs.Common.{◌≡◌, zero, suc, ◌<◌, ◌≤◌, List, [], ◌∷◌, Option, Some, refl, sym, subst, arith}
 use Rattle.std.proofs.lemmas.Option.{same_Some, none-some}
 use Rattle.ila_base.specs.declared.refusal.LimitKind.{LimitKind}
 use Rattle.ila_base.specs.declared.refusal.LimitKind.TheVariants.{FileBytes, NameLength, Constant, Nesting, Index, Depth, Cells, Pins, Nets, AllNames}
@@ -7,7 +7,8 @@ use Rattle.vlog_parse.specs.ReadTree.{In}
 use Rattle.elab_design.specs.Limits.{greatest}
 use Rattle.elab_scope.specs.declared.amounts.Count.{Count}
 use Rattle.elab_amounts.specs.Amounts.{count_of}
-use Rattle.elab_flat.specs.Above.{IsAbove}
+use Rattle.elab_flat.specs.declared.limits.Above.{Above}
+use Rattle.elab_flat.specs.Above.{IsAbove, IsFirstAbove}
 
 module _ (P : LimitKind → Type 0) where
   pub for_none : (kind : LimitKind) → In [] kind → P kind
@@ -30,13 +31,13 @@ greatest_low Pins = omega arith
 greatest_low Nets = omega arith
 greatest_low AllNames = omega arith
 
--- The first count above its limit, for the kinds with others before them
+-- The first count above its limit, for the kinds with several before them
 
 module _ (c : Count) where
   Low : LimitKind → Type 0
   Low kind = count_of kind c ≤ greatest kind
 
-  pub pins_above : c.depth ≤ 256 → c.cells ≤ 1048576 → 16777216 < c.pins → IsAbove c (record { kind = Pins; amount = c.pins })
+  pins_above : c.depth ≤ 256 → c.cells ≤ 1048576 → 16777216 < c.pins → IsAbove c (record { kind = Pins; amount = c.pins })
   unfolding Low
   pins_above deep cells more = record {
     among = (2, refl);
@@ -45,7 +46,7 @@ module _ (c : Count) where
     earlier = for_more Low Depth (Cells ∷ []) deep (for_more Low Cells [] cells (for_none Low));
   }
 
-  pub nets_above : c.depth ≤ 256 → c.cells ≤ 1048576 → c.pins ≤ 16777216 → 1048576 < c.nets → IsAbove c (record { kind = Nets; amount = c.nets })
+  nets_above : c.depth ≤ 256 → c.cells ≤ 1048576 → c.pins ≤ 16777216 → 1048576 < c.nets → IsAbove c (record { kind = Nets; amount = c.nets })
   unfolding Low
   nets_above deep cells pins more = record {
     among = (3, refl);
@@ -54,7 +55,7 @@ module _ (c : Count) where
     earlier = for_more Low Depth (Cells ∷ Pins ∷ []) deep (for_more Low Cells (Pins ∷ []) cells (for_more Low Pins [] pins (for_none Low)));
   }
 
-  pub bytes_above : c.depth ≤ 256 → c.cells ≤ 1048576 → c.pins ≤ 16777216 → c.nets ≤ 1048576 → 67108864 < c.bytes → IsAbove c (record { kind = AllNames; amount = c.bytes })
+  bytes_above : c.depth ≤ 256 → c.cells ≤ 1048576 → c.pins ≤ 16777216 → c.nets ≤ 1048576 → 67108864 < c.bytes → IsAbove c (record { kind = AllNames; amount = c.bytes })
   unfolding Low
   bytes_above deep cells pins nets more = record {
     among = (4, refl);
@@ -62,3 +63,13 @@ module _ (c : Count) where
     above = more;
     earlier = for_more Low Depth (Cells ∷ Pins ∷ Nets ∷ []) deep (for_more Low Cells (Pins ∷ Nets ∷ []) cells (for_more Low Pins (Nets ∷ []) pins (for_more Low Nets [] nets (for_none Low))));
   }
+
+  pub pins_first : (first : Option Above) → first ≡ Some (record { kind = Pins; amount = c.pins }) → c.depth ≤ 256 → c.cells ≤ 1048576 → 16777216 < c.pins → IsFirstAbove c first
+  pins_first first is deep cells more = subst (IsFirstAbove c) (sym is) (pins_above deep cells more)
+
+  pub nets_first : (first : Option Above) → first ≡ Some (record { kind = Nets; amount = c.nets }) → c.depth ≤ 256 → c.cells ≤ 1048576 → c.pins ≤ 16777216 → 1048576 < c.nets → IsFirstAbove c first
+  nets_first first is deep cells pins more = subst (IsFirstAbove c) (sym is) (nets_above deep cells pins more)
+
+  pub bytes_first : (first : Option Above) → first ≡ Some (record { kind = AllNames; amount = c.bytes }) → c.depth ≤ 256 → c.cells ≤ 1048576 → c.pins ≤ 16777216 → c.nets ≤ 1048576 → 67108864 < c.bytes
+      → IsFirstAbove c first
+  bytes_first first is deep cells pins nets more = subst (IsFirstAbove c) (sym is) (bytes_above deep cells pins nets more)

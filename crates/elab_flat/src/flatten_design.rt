@@ -97,6 +97,7 @@ fn settled(alloc: Global, raw: Raw) -> Result<Flat, NetStop>
 {
     match settle(alloc, raw) {
         Ok(flat) => {
+            // The call tells the prover what each netlist keeps.
             let _ = flat.clock();
             Ok(flat)
         }

@@ -15,6 +15,7 @@ pub struct Above {
 
 /// The first number of a count that is above its limit: more than 256 instance names on a path,
 /// 1,048,576 cells, 16,777,216 pins, 1,048,576 net bits, or 67,108,864 bytes of identifiers.
+#[tactic(auto, using(crate::proofs::AboveLaws::pins_first, crate::proofs::AboveLaws::nets_first, crate::proofs::AboveLaws::bytes_first))]
 pub fn first_above(count: Count) -> Option<Above>
     ensures { IsFirstAbove count result }
 {
