@@ -42,6 +42,12 @@ const DESIGNS: &[(&[u8], &[u8], &[u8])] = &[
         b"a\n1\n0\n0\n0\n",
         b"y\n0\n0\n1\n0\n",
     ),
+    // Modules without nets and cells that double 40 times.
+    (
+        b"module m (clk, a, y); input clk, a; output y; not (y, a); m0 u (); endmodule module m0; m1 u (), v (); endmodule module m1; m2 u (), v (); endmodule module m2; m3 u (), v (); endmodule module m3; m4 u (), v (); endmodule module m4; m5 u (), v (); endmodule module m5; m6 u (), v (); endmodule module m6; m7 u (), v (); endmodule module m7; m8 u (), v (); endmodule module m8; m9 u (), v (); endmodule module m9; m10 u (), v (); endmodule module m10; m11 u (), v (); endmodule module m11; m12 u (), v (); endmodule module m12; m13 u (), v (); endmodule module m13; m14 u (), v (); endmodule module m14; m15 u (), v (); endmodule module m15; m16 u (), v (); endmodule module m16; m17 u (), v (); endmodule module m17; m18 u (), v (); endmodule module m18; m19 u (), v (); endmodule module m19; m20 u (), v (); endmodule module m20; m21 u (), v (); endmodule module m21; m22 u (), v (); endmodule module m22; m23 u (), v (); endmodule module m23; m24 u (), v (); endmodule module m24; m25 u (), v (); endmodule module m25; m26 u (), v (); endmodule module m26; m27 u (), v (); endmodule module m27; m28 u (), v (); endmodule module m28; m29 u (), v (); endmodule module m29; m30 u (), v (); endmodule module m30; m31 u (), v (); endmodule module m31; m32 u (), v (); endmodule module m32; m33 u (), v (); endmodule module m33; m34 u (), v (); endmodule module m34; m35 u (), v (); endmodule module m35; m36 u (), v (); endmodule module m36; m37 u (), v (); endmodule module m37; m38 u (), v (); endmodule module m38; m39 u (), v (); endmodule module m39; m40 u (), v (); endmodule module m40;  endmodule",
+        b"a\n1\n0\n",
+        b"y\n0\n1\n",
+    ),
 ];
 
 #[test]
@@ -205,6 +211,19 @@ const REFUSED: &[(&[u8], &str, &str, &[u8])] = &[
         "m",
         "clk",
         b"ila: N17 Nets 2097153\n",
+    ),
+    // Doubled 21 times, and 40 times, where the count is above the greatest number.
+    (
+        b"module m (clk); input clk; m0 u (); endmodule module m0; m1 u (), v (); endmodule module m1; m2 u (), v (); endmodule module m2; m3 u (), v (); endmodule module m3; m4 u (), v (); endmodule module m4; m5 u (), v (); endmodule module m5; m6 u (), v (); endmodule module m6; m7 u (), v (); endmodule module m7; m8 u (), v (); endmodule module m8; m9 u (), v (); endmodule module m9; m10 u (), v (); endmodule module m10; m11 u (), v (); endmodule module m11; m12 u (), v (); endmodule module m12; m13 u (), v (); endmodule module m13; m14 u (), v (); endmodule module m14; m15 u (), v (); endmodule module m15; m16 u (), v (); endmodule module m16; m17 u (), v (); endmodule module m17; m18 u (), v (); endmodule module m18; m19 u (), v (); endmodule module m19; m20 u (), v (); endmodule module m20; m21 u (), v (); endmodule module m21; wire w; not (w, w); endmodule",
+        "m",
+        "clk",
+        b"ila: N17 Cells 2097152\n",
+    ),
+    (
+        b"module m (clk); input clk; m0 u (); endmodule module m0; m1 u (), v (); endmodule module m1; m2 u (), v (); endmodule module m2; m3 u (), v (); endmodule module m3; m4 u (), v (); endmodule module m4; m5 u (), v (); endmodule module m5; m6 u (), v (); endmodule module m6; m7 u (), v (); endmodule module m7; m8 u (), v (); endmodule module m8; m9 u (), v (); endmodule module m9; m10 u (), v (); endmodule module m10; m11 u (), v (); endmodule module m11; m12 u (), v (); endmodule module m12; m13 u (), v (); endmodule module m13; m14 u (), v (); endmodule module m14; m15 u (), v (); endmodule module m15; m16 u (), v (); endmodule module m16; m17 u (), v (); endmodule module m17; m18 u (), v (); endmodule module m18; m19 u (), v (); endmodule module m19; m20 u (), v (); endmodule module m20; m21 u (), v (); endmodule module m21; m22 u (), v (); endmodule module m22; m23 u (), v (); endmodule module m23; m24 u (), v (); endmodule module m24; m25 u (), v (); endmodule module m25; m26 u (), v (); endmodule module m26; m27 u (), v (); endmodule module m27; m28 u (), v (); endmodule module m28; m29 u (), v (); endmodule module m29; m30 u (), v (); endmodule module m30; m31 u (), v (); endmodule module m31; m32 u (), v (); endmodule module m32; m33 u (), v (); endmodule module m33; m34 u (), v (); endmodule module m34; m35 u (), v (); endmodule module m35; m36 u (), v (); endmodule module m36; m37 u (), v (); endmodule module m37; m38 u (), v (); endmodule module m38; m39 u (), v (); endmodule module m39; m40 u (), v (); endmodule module m40; wire w; not (w, w); endmodule",
+        "m",
+        "clk",
+        b"ila: N17 Cells 1000000000000\n",
     ),
     (
         b"module l (clk, a, b, q, n); input clk, a, b; output q, n; nand (q, a, n); nand (n, b, q); endmodule",

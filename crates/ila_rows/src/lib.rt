@@ -15,13 +15,15 @@ mod commands;
 #[cfg(test)]
 mod designs;
 #[cfg(test)]
+mod flat_text;
+#[cfg(test)]
+mod flattened;
+#[cfg(test)]
 mod marked;
 #[cfg(test)]
 mod outcome;
 #[cfg(test)]
 mod prefixes;
-#[cfg(test)]
-mod raw_text;
 #[cfg(test)]
 mod rows;
 #[cfg(test)]
@@ -36,5 +38,3 @@ mod texts;
 mod tree_text;
 #[cfg(test)]
 mod trees;
-#[cfg(test)]
-mod unfolded;

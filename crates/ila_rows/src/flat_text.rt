@@ -1,28 +1,27 @@
-use flat_settle::{Raw, RawCell};
-use net_core::{Group, NetId, Pin};
+use net_core::{Cell, Flat, Group, NetId, Pin};
 use std::alloc::Global;
 use std::test::Fail;
 
-/// A raw netlist as the rows write it: a line for each group, cell and port, and one for the clock.
+/// A flat netlist as the rows write it: a line for each group, cell and port, and one for the clock.
 #[derive(Drop)]
-pub struct RawText {
+pub struct FlatText {
     alloc: Global,
     text: Vec<u8>,
 }
 
-/// The text of a raw netlist.
-pub fn raw_text(alloc: Global, raw: &Raw) -> Result<Vec<u8>, Fail> {
-    let mut out = RawText {
+/// The text of a flat netlist.
+pub fn flat_text(alloc: Global, flat: &Flat) -> Result<Vec<u8>, Fail> {
+    let mut out = FlatText {
         alloc,
         text: Vec::new(alloc),
     };
-    for group in raw.groups.as_slice() {
+    for group in flat.groups() {
         out.group(group)?;
     }
-    for cell in raw.cells.as_slice() {
+    for cell in flat.cells() {
         out.cell(cell)?;
     }
-    for port in raw.ports.as_slice() {
+    for port in flat.ports() {
         out.bytes(if port.output {
             b"output ".as_slice()
         } else {
@@ -32,13 +31,13 @@ pub fn raw_text(alloc: Global, raw: &Raw) -> Result<Vec<u8>, Fail> {
         out.bytes(b"\n")?;
     }
     out.bytes(b"clock ")?;
-    out.number(raw.clock.0)?;
+    out.number(flat.clock().0)?;
     out.bytes(b"\n")?;
-    let RawText { alloc: _, text } = out;
+    let FlatText { alloc: _, text } = out;
     Ok(text)
 }
 
-impl RawText {
+impl FlatText {
     fn bytes(&mut self, bytes: &[u8]) -> Result<(), Fail> {
         self.text.extend_from_slice(bytes)?;
         Ok(())
@@ -83,15 +82,11 @@ impl RawText {
         }
     }
 
-    fn cell(&mut self, cell: &RawCell) -> Result<(), Fail> {
+    fn cell(&mut self, cell: &Cell) -> Result<(), Fail> {
         let alloc = self.alloc;
-        if cell.link {
-            self.bytes(b"link")?;
-        } else {
-            let kind = cell.kind;
-            let text = format!(in alloc; "{kind:?}")?;
-            self.bytes(text.as_bytes())?;
-        }
+        let kind = cell.kind;
+        let text = format!(in alloc; "{kind:?}")?;
+        self.bytes(text.as_bytes())?;
         if let Some(name) = &cell.name {
             self.bytes(b" ")?;
             self.bytes(name.bytes())?;
@@ -106,7 +101,7 @@ impl RawText {
         }
         if let Some(clock) = cell.clock {
             self.bytes(b" at")?;
-            self.pin(clock)?;
+            self.pin(Pin::Net(clock))?;
         }
         self.bytes(b"\n")
     }
