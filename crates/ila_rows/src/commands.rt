@@ -70,19 +70,28 @@ fn answer_of(alloc: Global, netlist: &[u8], row: &Row) -> Result<Answer, Fail> {
     })
 }
 
-/// What comes out where a netlist with a top and a clock of these names is simulated over a stimulus
-/// of which each read gives at most four bytes, and these reads fail.
+/// A stimulus over memory: its bytes, how many of them a read gives at most, and the reads that fail.
+#[derive(Clone, Copy)]
+pub struct Stimulus<'a> {
+    pub bytes: &'a [u8],
+    pub piece: usize,
+    pub fails: &'a [u32],
+}
+
+/// What comes out where a netlist with a top and a clock of these names is simulated over a stimulus,
+/// and these writes to the trace fail.
 pub fn simulated(
     alloc: Global,
     netlist: &[u8],
     [top, clock]: [&str; 2],
-    stimulus: &[u8],
+    stimulus: Stimulus<'_>,
     fails: &[u32],
 ) -> Result<Answer, Fail> {
     let mut shelf = shelf_of(alloc, netlist, &[])?;
-    let bytes = Vec::from_slice(alloc, stimulus)?;
-    let mut stimulus = MemSource::new(bytes, 4, Vec::from_slice(alloc, fails)?);
-    let mut trace = MemSink::new(alloc, 64, 1000, Vec::new(alloc))?;
+    let bytes = Vec::from_slice(alloc, stimulus.bytes)?;
+    let read_fails = Vec::from_slice(alloc, stimulus.fails)?;
+    let mut stimulus = MemSource::new(bytes, stimulus.piece.max(1), read_fails);
+    let mut trace = MemSink::new(alloc, 64, 4000, Vec::from_slice(alloc, fails)?)?;
     let mut errors = MemSink::new(alloc, 3, 1000, Vec::new(alloc))?;
     let words = texts(alloc, &["sim", "tog.v", top, clock])?;
     let status = ila(

@@ -1,8 +1,24 @@
 //! Designs that are simulated, and a text for each way in which a netlist is refused.
 
-use crate::commands::simulated;
+use crate::commands::{Answer, Stimulus, simulated};
 use crate::texts::{BLINK, COUNTER};
+use std::alloc::Global;
 use std::test::Fail;
+
+// What comes out where no call fails and a read gives at most four bytes.
+fn answer_to(
+    alloc: Global,
+    netlist: &[u8],
+    names: [&str; 2],
+    bytes: &[u8],
+) -> Result<Answer, Fail> {
+    let stimulus = Stimulus {
+        bytes,
+        piece: 4,
+        fails: &[],
+    };
+    simulated(alloc, netlist, names, stimulus, &[])
+}
 
 // A design whose top is `m` and whose clock is `clk`, a stimulus, and what comes out.
 const DESIGNS: &[(&[u8], &[u8], &[u8])] = &[
@@ -53,7 +69,7 @@ const DESIGNS: &[(&[u8], &[u8], &[u8])] = &[
 #[test]
 fn designs_and_their_outputs(rt: HostRuntime) -> Result<(), Fail> {
     for (text, stimulus, trace) in DESIGNS {
-        let answer = simulated(rt.alloc(), text, ["m", "clk"], stimulus, &[])?;
+        let answer = answer_to(rt.alloc(), text, ["m", "clk"], stimulus)?;
         assert_eq!(rt; answer.trace.bytes(), *trace, "at {text:?}");
         assert_eq!(rt; answer.exit, 0, "at {text:?}");
     }
@@ -62,13 +78,7 @@ fn designs_and_their_outputs(rt: HostRuntime) -> Result<(), Fail> {
 
 #[test]
 fn a_blinking_light(rt: HostRuntime) -> Result<(), Fail> {
-    let answer = simulated(
-        rt.alloc(),
-        BLINK,
-        ["blink", "clk"],
-        b"en\n1\n1\n0\n1\n",
-        &[],
-    )?;
+    let answer = answer_to(rt.alloc(), BLINK, ["blink", "clk"], b"en\n1\n1\n0\n1\n")?;
     assert_eq!(rt; answer.trace.bytes(), b"led\n0\n1\n2\n2\n".as_slice());
     assert_eq!(rt; answer.exit, 0);
     Ok(())
@@ -77,26 +87,9 @@ fn a_blinking_light(rt: HostRuntime) -> Result<(), Fail> {
 #[test]
 fn a_counter(rt: HostRuntime) -> Result<(), Fail> {
     let stimulus = b"\n\n\n\n\n\n\n\n\n\n\n\n\n\n\n\n\n\n\n";
-    let answer = simulated(rt.alloc(), COUNTER, ["counter", "clk"], stimulus, &[])?;
+    let answer = answer_to(rt.alloc(), COUNTER, ["counter", "clk"], stimulus)?;
     let trace = b"q\n0\n1\n2\n3\n4\n5\n6\n7\n8\n9\na\nb\nc\nd\ne\nf\n0\n1\n";
     assert_eq!(rt; answer.trace.bytes(), trace.as_slice());
-    Ok(())
-}
-
-const PASSED: &[u8] =
-    b"module p (clk, d, y); input clk; input [7:0] d; output [7:0] y; assign y = d; endmodule";
-
-const CUT: &[u8] = b"d\n00\n01\n02\n03\n04\n0";
-
-// The last line is no row; where a read fails, the rows that were whole before it are shown.
-#[test]
-fn a_stimulus_that_is_cut(rt: HostRuntime) -> Result<(), Fail> {
-    let answer = simulated(rt.alloc(), PASSED, ["p", "clk"], CUT, &[])?;
-    assert_eq!(rt; answer.trace.bytes(), b"y\n00\n01\n02\n03\n04\n".as_slice());
-    assert_eq!(rt; answer.errors.bytes(), b"ila: S2 7\n".as_slice());
-    let answer = simulated(rt.alloc(), PASSED, ["p", "clk"], CUT, &[2])?;
-    assert_eq!(rt; answer.trace.bytes(), b"y\n00\n01\n".as_slice());
-    assert_eq!(rt; answer.errors.bytes(), b"ila: read fault\n".as_slice());
     Ok(())
 }
 
@@ -248,7 +241,7 @@ const REFUSED: &[(&[u8], &str, &str, &[u8])] = &[
 #[test]
 fn each_refusal_of_a_netlist(rt: HostRuntime) -> Result<(), Fail> {
     for (text, top, clock, line) in REFUSED {
-        let answer = simulated(rt.alloc(), text, [top, clock], b"", &[])?;
+        let answer = answer_to(rt.alloc(), text, [top, clock], b"")?;
         assert_eq!(rt; answer.errors.bytes(), *line, "at {text:?}");
         assert!(rt; answer.trace.bytes().is_empty(), "at {text:?}");
         assert_eq!(rt; answer.exit, 2, "at {text:?}");

@@ -3,9 +3,11 @@ ghost use Rattle.vlog_parse.specs.ReadTree.{IsReadTree};
 
 use crate::flat_text::flat_text;
 use elab_flat::flatten;
+use ila_base::MemSource;
 use net_core::Flat;
 use std::alloc::Global;
 use std::test::Fail;
+use stim_read::{Stim, StimFault};
 use vlog_check::check;
 use vlog_lex::tokens;
 use vlog_parse::{Tree, parse};
@@ -157,5 +159,30 @@ fn vectors_both_ways(rt: HostRuntime) -> Result<(), Fail> {
     let flat = flat_of(rt.alloc(), VECTORS)?;
     let text = flat_text(rt.alloc(), &flat)?;
     assert_eq!(rt; text.as_slice(), VECTORS_SHOWN);
+    Ok(())
+}
+
+const PASSED: &[u8] =
+    b"module top (c, d, y); input c; input [7:0] d; output [7:0] y; assign y = d; endmodule";
+
+// A read that fails loses nothing: a further call takes the row that it was for.
+#[test]
+fn a_row_behind_a_failed_read(rt: HostRuntime) -> Result<(), Fail> {
+    let alloc = rt.alloc();
+    let flat = flat_of(alloc, PASSED)?;
+    let bytes = Vec::from_slice(alloc, b"d\n00\n01\n02\n03\n04\n0")?;
+    let mut source = MemSource::new(bytes, 4, Vec::from_slice(alloc, &[2])?);
+    let mut stim = match Stim::new(alloc, &mut source, &flat) {
+        Ok(stim) => stim,
+        Err(_) => return Err(Fail::from("no header")),
+    };
+    assert!(rt; stim.next(&mut source) == Ok(true));
+    assert!(rt; stim.next(&mut source) == Ok(true));
+    assert!(rt; stim.next(&mut source) == Err(StimFault::ReadFault));
+    assert!(rt; stim.next(&mut source) == Ok(true));
+    assert_eq!(rt;
+        stim.bits(),
+        [false, false, false, false, false, false, true, false].as_slice()
+    );
     Ok(())
 }

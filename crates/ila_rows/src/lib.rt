@@ -31,6 +31,8 @@ mod shown;
 #[cfg(test)]
 mod single;
 #[cfg(test)]
+mod streams;
+#[cfg(test)]
 mod syntax;
 #[cfg(test)]
 mod texts;
