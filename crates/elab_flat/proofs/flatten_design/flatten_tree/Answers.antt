@@ -1,7 +1,7 @@
 use Rattle.std.proofs.Common.{length, slice_get, None, ap, subst, ◌∙◌, arith}
 use Rattle.std.specs.Option.{option_and_then}
 use Rattle.elab_design.specs.Design.{Design}
-use Rattle.elab_unfold.specs.Whole.{IsWithin}
+use Rattle.elab_unfold.specs.Parts.{IsWithin}
 use Rattle.elab_amounts.specs.Amounts.{count_of}
 use Rattle.vlog_lex.specs.Cutting.{StopsFor}
 use Rattle.elab_design.specs.Limits.{IsElabFault}
