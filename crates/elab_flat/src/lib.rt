@@ -4,5 +4,7 @@
 mod clock;
 mod flatten_design;
 mod limits;
+#[cfg(test)]
+mod tests;
 
 pub use flatten_design::flatten;
