@@ -15,7 +15,7 @@ use Rattle.vlog_parse.specs.declared.tree.Module.{Module}
 use Rattle.vlog_parse.specs.declared.tree.Range.{Range}
 use Rattle.vlog_parse.specs.ReadTree.{In}
 use Rattle.vlog_check.specs.Checked.{IsChecked}
-use Rattle.vlog_check.specs.Scope.{module_number, numbered_from, range_width, net_width, range_of}
+use Rattle.vlog_check.specs.Scope.{module_number, numbered_from, range_width, net_width}
 use Rattle.elab_design.specs.Design.{Bit, bit_of, indices, net_bits, Design, IsTop, at_top}
 use Rattle.elab_design.specs.DesignRuns.{clock_bits}
 use Rattle.elab_design.specs.Limits.{HasClock}
