@@ -1,5 +1,5 @@
 -- What simulating an accepted design ends in is what the command ends in.
-use Rattle.std.proofs.Common.{◌≡◌, ℕ, List, Option, Some}
+use Rattle.std.proofs.Common.{◌≡◌, ℕ, List, Some}
 use Rattle.net_core.specs.Netlist.{Netlist as Net}
 use Rattle.net_core.specs.Cycle.{HasCycle}
 use Rattle.vlog_parse.specs.declared.tree.Tree.{Tree}

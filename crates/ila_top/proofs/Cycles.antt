@@ -1,5 +1,5 @@
 -- The nets of a combinational cycle are nets of the netlist.
-use Rattle.std.proofs.Common.{◌≡◌, ℕ, zero, suc, ◌+◌, ◌-◌, ◌<◌, List, length, get_or, slice_get, Some, arith}
+use Rattle.std.proofs.Common.{◌≡◌, ℕ, zero, suc, ◌+◌, ◌-◌, ◌<◌, List, length, get_or, arith}
 use Rattle.std.proofs.lemmas.Option.{slice_get_within, slice_get-get_or}
 use Rattle.net_core.specs.Netlist.{Netlist, net_count}
 use Rattle.net_core.specs.WellFormed.{IsFlat, Each}

@@ -17,7 +17,7 @@ use Rattle.ila_session.specs.Shown.{TakesRows, RefusesBehind as IsRefusedBehind}
 use Rattle.design_text.specs.DesignText.{design_inputs, ShowsDesign}
 use Rattle.ila_top.specs.declared.status.Status.{Status}
 use Rattle.ila_top.specs.declared.status.Status.TheVariants.{Stimulus, ReadFault, NoMemory}
-use Rattle.ila_top.specs.Rows.{Begins, BeginsIfTold, HasRowsIfTold, RefusesIfTold, RefusesBehind}
+use Rattle.ila_top.specs.Rows.{BeginsIfTold, HasRowsIfTold, RefusesIfTold, RefusesBehind}
 use Rattle.ila_top.specs.Answers.{Streams, SimAnswer, BeginAnswer, LeavesTrace}
 
 module _ (inputs : List DataInput) (start : Option (List ℕ)) (reading : Reading) (rows : List (List Bool)) where

@@ -1,5 +1,5 @@
 -- What the bytes of a netlist's file stand for, and why they are refused.
-use Rattle.std.specs.Prelude.{◌≡◌, ℕ, List, map, slice_get, Option, Some, None}
+use Rattle.std.specs.Prelude.{◌≡◌, ℕ, List, map, slice_get, Some, None}
 use Rattle.ila_base.specs.declared.place.Place.{Place}
 use Rattle.ila_base.specs.declared.refusal.NetRefusal.TheVariants.{Loop}
 use Rattle.net_core.specs.Netlist.{Netlist}

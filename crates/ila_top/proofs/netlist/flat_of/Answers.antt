@@ -23,4 +23,4 @@ returns-clause-refused c =
     let T : Tree → Type 0 = λ tree. IfErr c.flatten.result (StopsFor (IsElabFault (record { tree = tree; top = c.in_ok-design.design.top; clock = c.args.clock.now }))) in
     let N : List ℕ → Type 0 = λ name. IfErr c.flatten.result (StopsFor (IsElabFault (record { tree = c.in_ok-tree.tree; top = name; clock = c.args.clock.now }))) in
     unfold_refused_by c.args.bytes.now c.args.top.now c.args.clock.now c.in_ok-tree.tree c.flatten.result c.in_ok-tree.ensures.stands found.2
-        (subst N found.1 (subst T found.0 c.flatten.ensures.refused))
+    (subst N found.1 (subst T found.0 c.flatten.ensures.refused))

@@ -1,4 +1,4 @@
-use Rattle.std.proofs.Common.{ℕ, ◌<◌, List, sym, subst}
+use Rattle.std.proofs.Common.{◌<◌, List, sym, subst}
 use Rattle.net_core.specs.declared.parts.Group.{Group}
 use Rattle.net_core.specs.Netlist.{net_count, numbers}
 use Rattle.net_core.specs.WellFormed.{Each, HasRange}

@@ -14,7 +14,7 @@ returns-in-Err-read_netlist-clause-cause g c =
     let after : Outside = record { files = g.H.Shelf.files c.load_netlist.new.shelf; shelf_faults = g.H.Shelf.faults c.load_netlist.new.shelf; left = g.S.Source.left c.args.stimulus.now; read_faults = g.S.Source.faults c.args.stimulus.now; written = g.K.Sink.written c.args.trace.now; write_faults = g.K.Sink.faults c.args.trace.now } in
     let R : List ℕ → Type 0 = λ text. StopsFor (IsTextFault text sim.top sim.clock) c.in-Err-read_netlist.stop in
     rw c.refused.ensures (text_refused sim before after c.in-Ok.bytes.items c.in-Err-read_netlist.stop (c.in-Ok.ensures.held, short)
-        (subst R c.deref.ensures.value c.in-Err-read_netlist.ensures.refused))
+    (subst R c.deref.ensures.value c.in-Err-read_netlist.ensures.refused))
 
 pub returns-clause-cause : goal.returns-clause-cause
 returns-clause-cause g c =
@@ -25,7 +25,7 @@ returns-clause-cause g c =
     let found = c.in-Ok-read_netlist.ensures.found in
     let R : List ℕ → Type 0 = λ text. IsNetOf text (design_of found.0 sim.top sim.clock) c.in-Ok-read_netlist.read.0 in
     simulated sim before after c.in-Ok.bytes.items found.0 c.in-Ok-read_netlist.read.0 (c.in-Ok.ensures.held, short) (subst R c.deref.ensures.value found.1)
-        c.simulate.result c.in-Ok-read_netlist.ensures.no_cycle c.simulate.ensures.answers
+    c.simulate.result c.in-Ok-read_netlist.ensures.no_cycle c.simulate.ensures.answers
 
 pub returns-clause-stands : goal.returns-clause-stands
 returns-clause-stands g c =
