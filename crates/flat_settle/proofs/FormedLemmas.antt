@@ -1,12 +1,16 @@
 -- The kept parts are a well-formed netlist where no refusal holds, and the refusals by tables are those of the raw parts.
-use Rattle.std.proofs.Common.{◌≡◌, ℕ, ◌<◌, ◌↔◌, Bool, true, false, List, length, sum_by, slice_get, Option, Some, None, MatchOption, IsTrue, refl, ap, sym, ◌∙◌, subst, arith, inl, inr, ◌⊎◌, true≢false}
+use Rattle.std.proofs.Common.{◌≡◌, ℕ, ◌<◌, ◌↔◌, Bool, true, false, List, [], ◌∷◌, length, sum_by, slice_get, Option, Some, None, MatchOption, IsTrue, refl, ap, sym, ◌∙◌, subst, arith, inl, inr, ◌⊎◌, true≢false}
 use Rattle.std.specs.List.{filter_map}
 use Rattle.std.proofs.lemmas.Bool.{cases_eq, false_from_ne_true}
+use Rattle.net_core.specs.declared.kind.CellKind.{CellKind}
 use Rattle.net_core.specs.declared.parts.NetId.{NetId}
+use Rattle.net_core.specs.declared.parts.Pin.{Pin}
+use Rattle.net_core.specs.declared.parts.Pin.TheVariants as pins
 use Rattle.net_core.specs.declared.parts.Cell.{Cell}
 use Rattle.net_core.specs.declared.parts.Group.{Group}
-use Rattle.net_core.specs.CellTable.{is_clock_buffer}
+use Rattle.net_core.specs.CellTable.{is_clock_buffer, input_widths, IsPinCount}
 use Rattle.net_core.specs.Netlist.{Parts, Drives, HasDriver, IsIn, input_bits, net_count, IsBuffered, IsClock, IsClockPort}
+use Rattle.net_core.specs.Netlist as flat
 use Rattle.net_core.specs.WellFormed.{IsWellFormed, AllDiffer, Each, HasRow, HasOneClock, IsIdentifier, identifiers}
 use Rattle.net_core.proofs.ListLemmas.{filter_map_some}
 use Rattle.flat_settle.specs.declared.raw.RawCell.{RawCell}
@@ -14,9 +18,9 @@ use Rattle.flat_settle.specs.declared.raw.Raw.{Raw}
 use Rattle.flat_settle.specs.declared.raw.Unsettled.{Unsettled}
 use Rattle.flat_settle.specs.declared.raw.Unsettled.TheVariants as faults
 use Rattle.flat_settle.specs.declared.judge.Kept.{Kept}
-use Rattle.flat_settle.specs.Raw.{with_cells, raw_identifiers, IsUnfolded}
-use Rattle.flat_settle.specs.Driven.{IsDriven, IsClocked, clock_port, Leaves}
-use Rattle.flat_settle.specs.Refusals.{HasRepeat, flat_order, IsFirst, input_and_pin, two_pins, IsOnClockPin, IsRead, by_pin, by_clock_pin, by_output, by_data_pin, by_data_output, is_constant, HasConstantClock, IsUndriven, IsOtherClock, IsClockData, IsFaultOf, HasNoFault, IsFirstClock}
+use Rattle.flat_settle.specs.Raw.{RawDrives, with_cells, raw_identifiers, IsUnfolded}
+use Rattle.flat_settle.specs.Driven.{IsDriven, from_port, from_cell, from_constant, from_driven, zero_pin, one_pin, IsDropped, IsClocked, clock_port, Leaves}
+use Rattle.flat_settle.specs.Refusals.{HasRepeat, flat_order, IsFirst, input_and_pin, two_pins, IsOnClockPin, IsRead, by_pin, by_clock_pin, by_output, by_data_pin, by_data_output, is_constant, HasConstantClock, IsUndriven, IsOtherClock, IsClockData, IsFaultOf, HasNoFault, IsFirstClock, Settles}
 use Rattle.flat_settle.specs.Judged.{HasMarks, IsReadUndriven, IsOffClock, IsReadClock, IsJudgedFault, IsJudgedSound}
 use Rattle.flat_settle.specs.Tables.{is_marked}
 use Rattle.flat_settle.proofs.PortLemmas.{inputs_to, outputs_from, ports_within}
@@ -201,6 +205,50 @@ module _ (raw : Raw) (unfolded : IsUnfolded raw) (distinct : ¬ HasRepeat (flat_
       first_named : (o : Option NetId) → MatchOption o (first ≡ raw.clock) (λ net. first ≡ net) → MatchOption o (IsClockPort final first.0) (λ net. net ≡ first)
       first_named None own = subst (λ (net : NetId). IsClockPort final net.0) (sym own) port
       first_named (Some net) own = sym own
+
+      -- The driven bits
+
+      empty_pins : (xs : List Pin) → length xs ≡ 1 → slice_get xs 0 ≡ None → ⊥
+      empty_pins [] size at = omega (arith, size)
+      empty_pins (x ∷ xs) size at = cc at
+
+      -- what a link that is left leads to is driven
+      link_drives : (c k n : ℕ) (own : RawCell) → RawDrives raw.cells c own k n → ¬ IsDropped raw own → own.link ≡ true → IsDriven raw n
+      link_drives c k n own drives stays link = by (slice_get own.ins 0) refl
+        where
+          one_pin_in : length own.ins ≡ 1
+          one_pin_in = let row = unfolded.rows c own drives.at in subst (λ (kind : CellKind). IsPinCount (input_widths kind) (length own.ins)) (row.link link).kind row.input_count
+
+          by : (o : Option Pin) → slice_get own.ins 0 ≡ o → IsDriven raw n
+          by None at = absurd (empty_pins own.ins one_pin_in at)
+          by (Some pins.Zero) at = from_constant c own k n drives link (zero_pin at)
+          by (Some pins.One) at = from_constant c own k n drives link (one_pin at)
+          by (Some (pins.Net net)) at = elim (either_way (is_marked driven net.0)) [
+            | inl t ↦ from_driven c own k net.0 n drives link (record { at = drives.at; from = at }) ((drive net.0).0 t)
+            | inr f ↦ absurd (stays (record { link = link; source = net.0; from = at; undriven = not_driven net.0 f }))
+          ]
+
+      pin_drives : (n : ℕ) → HasDriver cells n → IsDriven raw n
+      pin_drives n (c, cell, k, drives) =
+          let own = drives_from raw unfolded cells leaves c k n cell drives in
+          elim (either_way own.1.link) [
+            | inl link ↦ link_drives own.0 k n own.1 own.2 own.4 link
+            | inr link ↦ from_cell own.0 own.1 k n own.2 link
+          ]
+
+      driven_same : (n : ℕ) → flat.IsDriven final n ↔ IsDriven raw n
+      driven_same n = (λ own. elim own [ inl input ↦ from_port n input | inr driver ↦ pin_drives n driver ], λ own. driven_left raw unfolded cells leaves n own)
+
+      pub settles : Settles raw final
+      settles = record {
+        groups = refl;
+        ports = refl;
+        cells = leaves;
+        clock = is_first;
+        sound = sound;
+        driven = driven_same;
+        clocked = λ n. (clock_clocked n, clocked_clock n);
+      }
 
       clocking : HasOneClock final
       clocking = record {

@@ -15,3 +15,4 @@ pub mod NumberLemmas
 pub mod SeenLemmas
 pub mod RepeatLemmas
 pub mod SampleLemmas
+pub mod PlaceLemmas

@@ -3,6 +3,7 @@ use Rattle.std.proofs.Common.{◌≡◌, ℕ, zero, suc, ◌<◌, ◌≤◌, fal
 use Rattle.std.proofs.lemmas.Option.{same_Some}
 use Rattle.net_core.specs.declared.parts.NetId.{NetId}
 use Rattle.net_core.specs.declared.parts.Pin.TheVariants as pins
+use Rattle.net_core.specs.Netlist.{net_count}
 use Rattle.net_core.specs.WellFormed.{Each, HasRange, IsIdentifier}
 use Rattle.flat_settle.specs.declared.raw.RawCell.{RawCell}
 use Rattle.flat_settle.specs.Raw.{HasRawRow, IsUnfolded, clock_net}
@@ -69,3 +70,7 @@ sample_unfolded = record {
       (each_more IsIdentifier (codes "a") (codes "y" ∷ []) (letter 97 (omega arith) (omega arith)) (each_one IsIdentifier (codes "y") (letter 121 (omega arith) (omega arith))));
   limits = record { cells = omega arith; nets = omega arith; pins = omega arith; names = omega arith };
 }
+
+-- the number of its last net bit
+pub last_bit : Each (λ n. n < net_count sample_raw.groups) (2 ∷ [])
+last_bit = each_one (λ n. n < net_count sample_raw.groups) 2 (omega arith)

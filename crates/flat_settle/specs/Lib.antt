@@ -5,3 +5,4 @@ pub mod Tables
 pub mod Judged
 pub mod Naming
 pub mod Sample
+pub mod Places

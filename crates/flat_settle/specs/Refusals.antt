@@ -1,5 +1,5 @@
 -- Why a netlist can't be settled, and what it is when settled.
-use Rattle.std.specs.Prelude.{◌≡◌, ℕ, ◌<◌, Bool, true, false, List, ◌∷◌, ◌++◌, map, filter_map, flat_map, slice_get, Option, Some, MatchOption, ⊤, ◌⊎◌, codes}
+use Rattle.std.specs.Prelude.{◌≡◌, ◌↔◌, ℕ, ◌<◌, Bool, true, false, List, ◌∷◌, ◌++◌, map, filter_map, flat_map, slice_get, Option, Some, MatchOption, ⊤, ◌⊎◌, codes}
 use Rattle.std.specs.Option.{option_map}
 use Rattle.net_core.specs.declared.parts.NetId.{NetId}
 use Rattle.net_core.specs.declared.parts.Pin.{Pin}
@@ -7,7 +7,8 @@ use Rattle.net_core.specs.declared.parts.Pin.TheVariants as pins
 use Rattle.net_core.specs.declared.parts.Cell.{Cell}
 use Rattle.net_core.specs.declared.parts.Group.{Group}
 use Rattle.net_core.specs.CellTable.{is_clock_buffer}
-use Rattle.net_core.specs.Netlist.{Parts, Drives, Reads, HasDriver, IsIn, input_bits, output_bits}
+use Rattle.net_core.specs.Netlist.{Parts, Drives, Reads, HasDriver, IsIn, IsClock, input_bits, output_bits}
+use Rattle.net_core.specs.Netlist as flat
 use Rattle.net_core.specs.WellFormed.{bit_names, net_names}
 use Rattle.flat_settle.specs.declared.raw.RawCell.{RawCell}
 use Rattle.flat_settle.specs.declared.raw.Raw.{Raw}
@@ -140,10 +141,12 @@ pub record HasNoFault (raw : Raw) (cells : List Cell) : Type 0 where
 abbrev pub IsFirstClock : Raw → List Cell → NetId → Type 0
 IsFirstClock raw cells clock = MatchOption (slice_get (filter_map (λ (cell : Cell). cell.clock) cells) 0) (clock ≡ raw.clock) (λ net. clock ≡ net)
 
--- the netlist without the dropped links, in which no sentence holds
+-- the netlist without the dropped links, in which no sentence holds; it has the same driven bits and the same clock set
 pub record Settles (raw : Raw) (parts : Parts) : Type 0 where
   pub groups : parts.groups ≡ raw.groups
   pub ports : parts.ports ≡ raw.ports
   pub cells : Leaves raw raw.cells parts.cells
   pub clock : IsFirstClock raw parts.cells parts.clock
   pub sound : HasNoFault raw parts.cells
+  pub driven : (n : ℕ) → flat.IsDriven parts n ↔ IsDriven raw n
+  pub clocked : (n : ℕ) → IsClock parts n ↔ IsClocked raw n

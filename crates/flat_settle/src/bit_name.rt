@@ -33,8 +33,8 @@ pub fn indexed(alloc: Global, front: &[u8], index: u32) -> Result<Name, NoMemory
     Name::new(alloc, bytes.as_slice())
 }
 
-// The name of a group's bit by its place from the left.
-fn group_bit_name(alloc: Global, group: &Group, place: usize) -> Result<Name, NoMemory>
+/// The name of a group's bit by its place from the left.
+pub fn group_bit_name(alloc: Global, group: &Group, place: usize) -> Result<Name, NoMemory>
     requires range { HasRange group.now }
     requires within { place < length group.now.bits }
     ensures { IfOk result (λ name. slice_get (bit_names group.now) place ≡ Some name) }

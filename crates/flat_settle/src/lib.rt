@@ -7,6 +7,7 @@ mod driven;
 mod judge;
 mod keep;
 mod marks;
+mod names;
 mod numbers;
 mod owners;
 mod pushes;
@@ -18,5 +19,6 @@ mod steps;
 #[cfg(test)]
 mod tests;
 
+pub use names::net_names;
 pub use raw::{Raw, RawCell, Unsettled};
 pub use settled::settle;

@@ -2,7 +2,7 @@
 ghost use Rattle.std.specs.Prelude.{◌≡◌, [], ◌∷◌, None, IfOk};
 ghost use Rattle.flat_settle.specs.Sample.{sample_link, sample_raw};
 
-use crate::{Raw, RawCell, Unsettled, settle};
+use crate::{Raw, RawCell, Unsettled, net_names, settle};
 use ila_base::{Items, Name, NoMemory};
 use net_core::{CellKind, Flat, GateCode, Group, NetId, Pin, Port};
 use std::alloc::Global;
@@ -78,6 +78,26 @@ fn settles_a_link(rt: HostRuntime) -> Result<(), Fail> {
             assert!(rt; flat.cells().len() == 1);
             assert!(rt; flat.clock().0 == 0);
             assert!(rt; flat.is_driven(NetId(2)));
+        }
+        Err(_fault) => assert!(rt; false),
+    }
+    Ok(())
+}
+
+// The name of its last net bit.
+fn last_name(alloc: Global) -> Result<Items<Name>, NoMemory> {
+    let raw = sample(alloc)?;
+    net_names(alloc, raw.groups.as_slice(), &[NetId(2)])
+}
+
+#[test]
+fn names_a_net_bit(rt: HostRuntime) -> Result<(), Fail> {
+    match last_name(rt.alloc()) {
+        Ok(names) => {
+            assert!(rt; names.len() == 1);
+            for name in names.as_slice() {
+                assert!(rt; name.bytes() == b"y".as_slice());
+            }
         }
         Err(_fault) => assert!(rt; false),
     }

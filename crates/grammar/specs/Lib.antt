@@ -10,3 +10,4 @@ pub mod ListLaws
 pub mod NestLaws
 pub mod SortLaws
 pub mod LoopLaws
+pub mod YieldLaws

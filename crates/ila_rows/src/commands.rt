@@ -38,12 +38,12 @@ fn shelf_of(alloc: Global, netlist: &[u8], fails: &[u32]) -> Result<MemShelf, Fa
     Ok(MemShelf::new(files, Vec::from_slice(alloc, fails)?))
 }
 
-// What came out of a call: the exit status, the trace and the error line.
+/// What came out of a call: the exit status, the trace and the error line.
 #[derive(Drop)]
-struct Answer {
-    exit: u8,
-    trace: MemSink,
-    errors: MemSink,
+pub struct Answer {
+    pub exit: u8,
+    pub trace: MemSink,
+    pub errors: MemSink,
 }
 
 fn answer_of(alloc: Global, netlist: &[u8], row: &Row) -> Result<Answer, Fail> {
@@ -54,6 +54,46 @@ fn answer_of(alloc: Global, netlist: &[u8], row: &Row) -> Result<Answer, Fail> {
     let mut trace = MemSink::new(alloc, 64, 1000, Vec::from_slice(alloc, write_fails)?)?;
     let mut errors = MemSink::new(alloc, 3, 1000, Vec::new(alloc))?;
     let words = texts(alloc, row.words)?;
+    let status = ila(
+        alloc,
+        words.as_slice(),
+        &mut shelf,
+        &mut stimulus,
+        &mut trace,
+        &mut errors,
+    );
+    let exit = exit_code(&status);
+    Ok(Answer {
+        exit,
+        trace,
+        errors,
+    })
+}
+
+/// A stimulus over memory: its bytes, how many of them a read gives at most, and the reads that fail.
+#[derive(Clone, Copy)]
+pub struct Stimulus<'a> {
+    pub bytes: &'a [u8],
+    pub piece: usize,
+    pub fails: &'a [u32],
+}
+
+/// What comes out where a netlist with a top and a clock of these names is simulated over a stimulus,
+/// and these writes to the trace fail.
+pub fn simulated(
+    alloc: Global,
+    netlist: &[u8],
+    [top, clock]: [&str; 2],
+    stimulus: Stimulus<'_>,
+    fails: &[u32],
+) -> Result<Answer, Fail> {
+    let mut shelf = shelf_of(alloc, netlist, &[])?;
+    let bytes = Vec::from_slice(alloc, stimulus.bytes)?;
+    let read_fails = Vec::from_slice(alloc, stimulus.fails)?;
+    let mut stimulus = MemSource::new(bytes, stimulus.piece.max(1), read_fails);
+    let mut trace = MemSink::new(alloc, 64, 4000, Vec::from_slice(alloc, fails)?)?;
+    let mut errors = MemSink::new(alloc, 3, 1000, Vec::new(alloc))?;
+    let words = texts(alloc, &["sim", "tog.v", top, clock])?;
     let status = ila(
         alloc,
         words.as_slice(),
@@ -164,7 +204,7 @@ fn words_and_netlists_that_are_refused(rt: HostRuntime) -> Result<(), Fail> {
                 fails: NO_FAILS,
                 stimulus: b"x\n1\n",
                 trace: b"",
-                line: b"ila: N3 1:1\n",
+                line: b"ila: N13 other\n",
                 exit: 2,
             },
         ],
@@ -226,7 +266,7 @@ const REFUSED: &[(&[u8], &[u8])] = &[
     ),
     (
         b"module m (); assign a[1048575] = b; endmodule",
-        b"ila: N3 1:1\n",
+        b"ila: N5 1:21 a\n",
     ),
     // 33 braces are one too many, and the syntax comes first.
     (
@@ -239,7 +279,7 @@ const REFUSED: &[(&[u8], &[u8])] = &[
     ),
     (
         b"module m (); assign {{{{{{{{{{{{{{{{{{{{{{{{{{{{{{{{a}}}}}}}}}}}}}}}}}}}}}}}}}}}}}}}} = b; endmodule",
-        b"ila: N3 1:1\n",
+        b"ila: N5 1:53 a\n",
     ),
 ];
 

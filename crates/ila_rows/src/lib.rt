@@ -1,11 +1,27 @@
 //! Tables of what is given and what must come out: the tokens of texts, the places where texts are
-//! refused, the trees of texts, and whole commands over memory.
+//! refused, the trees of texts, what is found in them, and whole commands over memory.
 #![tactic(auto)]
 
 #[cfg(test)]
+mod checked_cells;
+#[cfg(test)]
+mod checked_names;
+#[cfg(test)]
+mod checked_pins;
+#[cfg(test)]
+mod checked_widths;
+#[cfg(test)]
 mod commands;
 #[cfg(test)]
+mod designs;
+#[cfg(test)]
+mod flat_text;
+#[cfg(test)]
+mod flattened;
+#[cfg(test)]
 mod marked;
+#[cfg(test)]
+mod outcome;
 #[cfg(test)]
 mod prefixes;
 #[cfg(test)]
@@ -14,6 +30,8 @@ mod rows;
 mod shown;
 #[cfg(test)]
 mod single;
+#[cfg(test)]
+mod streams;
 #[cfg(test)]
 mod syntax;
 #[cfg(test)]

@@ -1,7 +1,6 @@
-pub mod Begun
-pub mod Gains
+pub mod Accepted
+pub mod Complete
+pub mod Cycles
 pub mod Lines
-pub mod RowLaws
-pub mod Seen
-pub mod Simulation
 pub mod Refused
+pub mod Taken

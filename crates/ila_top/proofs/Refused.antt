@@ -1,51 +1,65 @@
 -- Why a netlist is refused, from the one call to the other.
-use Rattle.std.proofs.Common.{ℕ, ◌≤◌, List, length, Result, Ok, Err, ap, inl, inr}
-use Rattle.std.specs.Prelude.{IfErr, Some, None}
-use Rattle.ila_base.specs.declared.refusal.NetRefusal.TheVariants as net
+use Rattle.std.proofs.Common.{ℕ, List, Result, Ok, Err, inl, inr}
+use Rattle.std.specs.Prelude.{Some, None, IfErr}
+use Rattle.net_core.specs.Netlist.{Netlist}
+use Rattle.vlog_lex.specs.declared.token.NetFault.{NetFault}
 use Rattle.vlog_lex.specs.declared.token.NetStop.{NetStop}
 use Rattle.vlog_lex.specs.declared.token.NetStop.TheVariants as stops
 use Rattle.vlog_lex.specs.declared.token.Token.{Token}
 use Rattle.vlog_lex.specs.Cutting.{IsReading, StopsFor}
 use Rattle.vlog_parse.specs.Parsing.{IsRefusal}
 use Rattle.vlog_parse.specs.declared.tree.Tree.{Tree}
+use Rattle.vlog_check.specs.Checked.{IsChecked, IsRefused}
+use Rattle.elab_design.specs.Limits.{IsElabFault}
 use Rattle.ila_top.specs.declared.status.Status.{Status}
-use Rattle.ila_top.specs.declared.status.Status.TheVariants.{Netlist, NoFile, ShelfFault, NoMemory}
-use Rattle.ila_top.specs.Reading.{StandsForTree, no_tokens, no_tree, other_form, TextCause, status_of, IsUnread}
-use Rattle.ila_top.specs.Answers.{Outside, SimWords, HoldsIfTold, most_bytes, LoadCause, SimCause}
+use Rattle.ila_top.specs.declared.status.Status.TheVariants.{Netlist as NetStatus, NoFile, ShelfFault, NoMemory}
+use Rattle.ila_top.specs.Reading.{StandsForTree, IsNetOf, IsLoopFault, IsTextFault, no_tokens, no_tree, unchecked, not_unfolded, loops, design_of, status_of}
+use Rattle.ila_top.specs.Answers.{Outside, SimWords, IsLoaded, LoadCause, SimCause}
 
--- A design that isn't in the form that is simulated refuses its text.
-pub unread_text : (text : List ℕ) (tree : Tree) (status : Status) → StandsForTree text tree → IsUnread status → TextCause text status
-unread_text text tree (Netlist net.Syntax place) stands at =
-    other_form tree stands (ap (λ p. record { refusal = net.Syntax; place = p }) at)
-unread_text text tree NoMemory stands unread = tt
-unread_text text tree (Netlist _ _) stands unread = absurd unread
-unread_text text tree _ stands unread = absurd unread
+-- a stop for one cause is a stop for another that follows from it
+stops_too : (P Q : NetFault → Type 0) → ((fault : NetFault) → P fault → Q fault) → (stop : NetStop) → StopsFor P stop → StopsFor Q stop
+stops_too P Q then (stops.Refused fault) stopped = then fault stopped
+stops_too P Q then stops.NoMemory stopped = tt
+
+module _ (text top clock : List ℕ) where
+  pub tokens_refused : (stop : NetStop) → StopsFor (λ fault. (tokens : List Token) × IsReading text tokens (Some fault)) stop → StopsFor (IsTextFault text top clock) stop
+  tokens_refused = stops_too _ _ (λ fault given. no_tokens given.0 given.1)
+
+  pub parse_refused : (tokens : List Token) (stop : NetStop) → IsReading text tokens None → StopsFor (IsRefusal text tokens) stop → StopsFor (IsTextFault text top clock) stop
+  parse_refused tokens stop reading = stops_too _ _ (λ fault refused. no_tree tokens reading refused) stop
+
+  pub parse_refused_by : {X : Type 0} (tokens : List Token) (r : Result X NetStop) → IsReading text tokens None → IfErr r (StopsFor (IsRefusal text tokens))
+      → IfErr r (StopsFor (IsTextFault text top clock))
+  parse_refused_by tokens (Ok _) reading refused = tt
+  parse_refused_by tokens (Err stop) reading refused = parse_refused tokens stop reading refused
+
+  pub check_refused : (tree : Tree) (stop : NetStop) → StandsForTree text tree → StopsFor (IsRefused tree top) stop → StopsFor (IsTextFault text top clock) stop
+  check_refused tree stop stands = stops_too _ _ (λ fault refused. unchecked tree stands refused) stop
+
+  pub unfold_refused : (tree : Tree) (stop : NetStop) → StandsForTree text tree → IsChecked tree top → StopsFor (IsElabFault (design_of tree top clock)) stop
+      → StopsFor (IsTextFault text top clock) stop
+  unfold_refused tree stop stands checked = stops_too _ _ (λ fault refused. not_unfolded tree stands checked refused) stop
+
+  pub unfold_refused_by : {X : Type 0} (tree : Tree) (r : Result X NetStop) → StandsForTree text tree → IsChecked tree top
+      → IfErr r (StopsFor (IsElabFault (design_of tree top clock))) → IfErr r (StopsFor (IsTextFault text top clock))
+  unfold_refused_by tree (Ok _) stands checked refused = tt
+  unfold_refused_by tree (Err stop) stands checked refused = unfold_refused tree stop stands checked refused
+
+  pub loop_refused : (tree : Tree) (net : Netlist) (stop : NetStop) → IsNetOf text (design_of tree top clock) net → StopsFor (IsLoopFault net) stop
+      → StopsFor (IsTextFault text top clock) stop
+  loop_refused tree net stop own = stops_too _ _ (λ fault refused. loops tree net own refused) stop
 
 -- A text that is refused, where its file holds it.
-pub text_refused : (sim : SimWords) (before after : Outside) (text : List ℕ) (status : Status) → HoldsIfTold before.files sim.netlist text → length text ≤ most_bytes
-    → TextCause text status → SimCause sim before after status
-text_refused sim before after text (Netlist refusal place) held short cause = inr (text, held, short, cause)
-text_refused sim before after text NoMemory held short cause = tt
-text_refused sim before after text _ held short cause = absurd cause
+pub text_refused : (sim : SimWords) (before after : Outside) (text : List ℕ) (stop : NetStop) → IsLoaded before sim text
+    → StopsFor (IsTextFault text sim.top sim.clock) stop → SimCause sim before after (status_of stop)
+text_refused sim before after text (stops.Refused fault) loaded cause = inr (text, loaded, cause)
+text_refused sim before after text stops.NoMemory loaded cause = tt
 
 -- A file that isn't loaded.
 pub load_refused : (sim : SimWords) (before after : Outside) (status : Status) → LoadCause sim.netlist before.files before.shelf_faults after.shelf_faults status
     → SimCause sim before after status
 load_refused sim before after ShelfFault cause = cause
 load_refused sim before after (NoFile missing) cause = cause
-load_refused sim before after (Netlist refusal place) cause = inl cause
+load_refused sim before after (NetStatus refusal place) cause = inl cause
 load_refused sim before after NoMemory cause = tt
 load_refused sim before after _ cause = absurd cause
-
-pub unread_form : {X : Type 0} (text : List ℕ) (tree : Tree) (r : Result X Status) → StandsForTree text tree → IfErr r IsUnread → IfErr r (TextCause text)
-unread_form text tree (Ok _) stands unread = unread
-unread_form text tree (Err status) stands unread = unread_text text tree status stands unread
-
--- A text that isn't cut into tokens, and one whose tokens are refused.
-pub tokens_refused : (text : List ℕ) (stop : NetStop) → StopsFor (λ fault. (tokens : List Token) × IsReading text tokens (Some fault)) stop → TextCause text (status_of stop)
-tokens_refused text (stops.Refused fault) (tokens, reading) = no_tokens tokens reading
-tokens_refused text stops.NoMemory stopped = tt
-
-pub parse_refused : (text : List ℕ) (tokens : List Token) (stop : NetStop) → IsReading text tokens None → StopsFor (IsRefusal text tokens) stop → TextCause text (status_of stop)
-parse_refused text tokens (stops.Refused fault) reading refusal = no_tree tokens reading refusal
-parse_refused text tokens stops.NoMemory reading stopped = tt

@@ -1,5 +1,5 @@
 -- What a command answers: for each answer its cause, and what stands after it.
-use Rattle.std.specs.Prelude.{◌≡◌, ℕ, ◌+◌, ◌<◌, ◌≤◌, List, [], ◌∷◌, length, codes, ⊤, ◌⊎◌, Option, Some, None, if◌then◌else◌}
+use Rattle.std.specs.Prelude.{◌≡◌, ℕ, ◌+◌, ◌<◌, ◌≤◌, Bool, List, [], ◌∷◌, length, codes, ⊤, ◌⊎◌, Option, Some, None, if◌then◌else◌}
 use Rattle.std.specs.Str.{bytes_eq}
 use Rattle.std.specs.Io.KnownBytes.{Keeps, Appends, IsAtEnd}
 use Rattle.ila_base.specs.Faults.{Rose, AppendsFront}
@@ -9,9 +9,16 @@ use Rattle.ila_base.specs.declared.place.Place.{Place}
 use Rattle.ila_base.specs.declared.refusal.LimitKind.TheVariants as limits
 use Rattle.ila_base.specs.declared.refusal.NetRefusal.{NetRefusal}
 use Rattle.ila_base.specs.declared.refusal.NetRefusal.TheVariants as net
+use Rattle.ila_base.specs.declared.refusal.StimRefusal.{StimRefusal}
 use Rattle.ila_base.specs.declared.refusal.StimRefusal.TheVariants as stim
-use Rattle.ila_top.specs.Reading.{StandsForInputs, IsTextFault}
-use Rattle.ila_top.specs.Rows.{RefusesIfTold, scalars}
+use Rattle.vlog_parse.specs.declared.tree.Tree.{Tree}
+use Rattle.vlog_parse.specs.declared.tree.Module.{Module}
+use Rattle.stim_read.specs.declared.inputs.DataInput.{DataInput}
+use Rattle.stim_read.specs.Reading.{HasNoHeader}
+use Rattle.elab_design.specs.Design.{Design, IsTop}
+use Rattle.design_text.specs.DesignText.{design_inputs, ShowsDesign, ShowsDesignFront}
+use Rattle.ila_top.specs.Reading.{IsTextFault, IsAcceptedText, design_of, nowhere}
+use Rattle.ila_top.specs.Rows.{BeginsIfTold, HasRowsIfTold, RefusesIfTold}
 use Rattle.ila_top.specs.declared.status.Status.{Status}
 use Rattle.ila_top.specs.declared.status.Status.TheVariants.{Done, Usage, Netlist, Project, Tsm, Resource, Settings, Stimulus, NoFile, ShelfFault, ReadFault, WriteFault, NoMemory}
 
@@ -58,10 +65,6 @@ LongerIfTold (Some files) name = (bytes : List ℕ) × (file_of files name ≡ S
 abbrev pub IsLoaded : Outside → SimWords → List ℕ → Type 0
 IsLoaded before sim bytes = HoldsIfTold before.files sim.netlist bytes × (length bytes ≤ most_bytes)
 
--- no place
-abbrev pub nowhere : Place
-nowhere = record { line = 0; col = 0 }
-
 -- The file is longer than allowed, and is refused for that.
 abbrev pub IsTooLong : List ℕ → Option (List File) → NetRefusal → Place → Type 0
 IsTooLong name files refusal place = (refusal ≡ net.Limit limits.FileBytes (most_bytes + 1)) × (place ≡ nowhere) × LongerIfTold files name
@@ -103,30 +106,84 @@ exit_code_of WriteFault = 10
 exit_code_of NoMemory = 11
 exit_code_of (NoFile _) = 12
 
--- The netlist's file has these bytes, and not more than allowed, and they stand for a design with these data inputs.
-pub record IsRead (sim : SimWords) (before : Outside) (inputs : List (List ℕ)) : Type 0 where
-  pub bytes : List ℕ
-  pub held : HoldsIfTold before.files sim.netlist bytes
-  pub short : length bytes ≤ most_bytes
-  pub stands_for : StandsForInputs bytes sim.top sim.clock inputs
-
 -- Why the netlist of `sim` is refused: its file is longer than allowed, or its text is refused.
 abbrev pub NetCause : SimWords → Outside → NetRefusal → Place → Type 0
 NetCause sim before refusal place = IsTooLong sim.netlist before.files refusal place
-    ⊎ ((bytes : List ℕ) × HoldsIfTold before.files sim.netlist bytes × (length bytes ≤ most_bytes) × IsTextFault bytes (record { refusal = refusal; place = place }))
+    ⊎ ((bytes : List ℕ) × IsLoaded before sim bytes × IsTextFault bytes sim.top sim.clock (record { refusal = refusal; place = place }))
+
+-- The netlist's file has these bytes, and not more than allowed, and they stand for a design that is accepted, with this top module.
+pub record IsAccepted (sim : SimWords) (before : Outside) (d : Design) (top : Module) : Type 0 where
+  pub bytes : List ℕ
+  pub loaded : IsLoaded before sim bytes
+  pub accepted : IsAcceptedText bytes d
+  pub is_top : IsTop d top
+
+-- the stimulus and the trace at one moment
+pub record Streams : Type 0 where
+  pub left : Option (List ℕ)
+  pub read_faults : ℕ
+  pub written : Option (List ℕ)
+  pub write_faults : ℕ
+
+abbrev pub streams_of : Outside → Streams
+streams_of o = record { left = o.left; read_faults = o.read_faults; written = o.written; write_faults = o.write_faults }
+
+-- The first rows of the stimulus were taken, and the outputs text of the design's one run over them was put behind the trace.
+pub record ShowsTaken (d : Design) (top : Module) (before after : Streams) : Type 0 where
+  pub rows : List (List Bool)
+  pub taken : BeginsIfTold (design_inputs top d.clock) before.left rows
+  pub shown : ShowsDesign d rows before.written after.written
+
+-- What simulating an accepted design ends in, each answer with its cause and with what the trace has gained.
+abbrev pub SimAnswer : Design → Module → Streams → Streams → Status → Type 0
+SimAnswer d top before after Done = (rows : List (List Bool)) × HasRowsIfTold (design_inputs top d.clock) before.left rows
+    × ShowsDesign d rows before.written after.written × IsAtEnd after.left
+SimAnswer d top before after (Stimulus stim.Header) = HasNoHeader (design_inputs top d.clock) before.left
+SimAnswer d top before after (Stimulus why) = (rows : List (List Bool)) × RefusesIfTold (design_inputs top d.clock) before.left rows why
+    × ShowsDesign d rows before.written after.written
+SimAnswer d top before after ReadFault = Rose before.read_faults after.read_faults
+    × (Keeps before.written after.written ⊎ ShowsTaken d top before after)
+SimAnswer d top before after WriteFault = Rose before.write_faults after.write_faults
+    × ((rows : List (List Bool)) × BeginsIfTold (design_inputs top d.clock) before.left rows × ShowsDesignFront d rows before.written after.written)
+SimAnswer d top before after NoMemory = ⊤
+SimAnswer d top before after _ = ⊥
+
+-- what reading the header of the stimulus may end in
+abbrev pub BeginAnswer : List DataInput → Option (List ℕ) → ℕ → ℕ → Status → Type 0
+BeginAnswer inputs text faults_before faults_after (Stimulus stim.Header) = HasNoHeader inputs text
+BeginAnswer inputs text faults_before faults_after ReadFault = Rose faults_before faults_after
+BeginAnswer inputs text faults_before faults_after NoMemory = ⊤
+BeginAnswer inputs text faults_before faults_after _ = ⊥
 
 -- Why `sim` with these words answers as it does.
 abbrev pub SimCause : SimWords → Outside → Outside → Status → Type 0
-SimCause sim before after Done = ((inputs : List (List ℕ)) × IsRead sim before inputs) × IsAtEnd after.left
 SimCause sim before after (Netlist refusal place) = NetCause sim before refusal place
-SimCause sim before after (Stimulus refusal) =
-    (inputs : List (List ℕ)) × IsRead sim before inputs × RefusesIfTold (scalars inputs) before.left refusal
 SimCause sim before after (NoFile name) = (name ≡ sim.netlist) × LacksIfTold before.files sim.netlist
 SimCause sim before after ShelfFault = Rose before.shelf_faults after.shelf_faults
-SimCause sim before after ReadFault = ((inputs : List (List ℕ)) × IsRead sim before inputs) × Rose before.read_faults after.read_faults
-SimCause sim before after WriteFault = ((inputs : List (List ℕ)) × IsRead sim before inputs) × Rose before.write_faults after.write_faults
 SimCause sim before after NoMemory = ⊤
-SimCause sim before after _ = ⊥
+SimCause sim before after status = (tree : Tree) × (top : Module) × IsAccepted sim before (design_of tree sim.top sim.clock) top
+    × SimAnswer (design_of tree sim.top sim.clock) top (streams_of before) (streams_of after) status
+
+-- the line that the stimulus is refused at: its header, or one behind rows
+abbrev pub IsStimRefusal : List DataInput → Option (List ℕ) → StimRefusal → Type 0
+IsStimRefusal inputs text stim.Header = HasNoHeader inputs text
+IsStimRefusal inputs text why = (rows : List (List Bool)) × RefusesIfTold inputs text rows why
+
+-- The netlist's file is there, no sentence of a refusal holds, and no count of faults has risen.
+pub record IsClear (sim : SimWords) (before after : Outside) : Type 0 where
+  pub there : ¬ LacksIfTold before.files sim.netlist
+  pub netlist : (refusal : NetRefusal) (place : Place) → ¬ NetCause sim before refusal place
+  pub stimulus : (tree : Tree) (top : Module) (why : StimRefusal) → IsAccepted sim before (design_of tree sim.top sim.clock) top
+      → ¬ IsStimRefusal (design_inputs top sim.clock) before.left why
+  pub shelf : ¬ Rose before.shelf_faults after.shelf_faults
+  pub reads : ¬ Rose before.read_faults after.read_faults
+  pub writes : ¬ Rose before.write_faults after.write_faults
+
+-- done, or memory wasn't found
+abbrev pub IsDone : Status → Type 0
+IsDone Done = ⊤
+IsDone NoMemory = ⊤
+IsDone _ = ⊥
 
 -- Why a command answers as it does: Usage exactly where the words are of no command.
 abbrev pub Cause : List (List ℕ) → Outside → Outside → Status → Type 0
@@ -137,17 +194,21 @@ Cause words before after status = (sim : SimWords) × (sim_words words ≡ Some 
 abbrev pub IsUntouched : Outside → Outside → Type 0
 IsUntouched before after = Keeps before.left after.left × Keeps before.written after.written
 
+-- Where the header of the stimulus is refused, or memory isn't found, the trace is as it was.
+abbrev pub LeavesTrace : Option (List ℕ) → Option (List ℕ) → Status → Type 0
+LeavesTrace old new (Stimulus stim.Header) = Keeps old new
+LeavesTrace old new NoMemory = Keeps old new
+LeavesTrace old new _ = ⊤
+
 -- What stands of stimulus and trace after each answer: before the stimulus is begun both are as they
--- were; where its header is refused, or memory isn't found, the trace is; else the trace has gained
--- some bytes at its end.
+-- were; where its header is refused, or memory isn't found, the trace is; what else the trace has gained
+-- is told with the answer's cause.
 abbrev pub Leaves : Outside → Outside → Status → Type 0
 Leaves before after Usage = IsUntouched before after
 Leaves before after (Netlist _ _) = IsUntouched before after
 Leaves before after (NoFile _) = IsUntouched before after
 Leaves before after ShelfFault = IsUntouched before after
-Leaves before after (Stimulus stim.Header) = Keeps before.written after.written
-Leaves before after NoMemory = Keeps before.written after.written
-Leaves before after _ = (bytes : List ℕ) × Appends before.written after.written bytes
+Leaves before after status = LeavesTrace before.written after.written status
 
 -- what stands after each answer: all files, and no count has fallen
 pub record Stands (before after : Outside) (status : Status) : Type 0 where

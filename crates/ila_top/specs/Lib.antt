@@ -1,5 +1,4 @@
+pub mod Answers
 pub mod ErrorLine
-pub mod FirstForm
 pub mod Reading
 pub mod Rows
-pub mod Answers

@@ -4,11 +4,10 @@
 
 mod code;
 mod ending;
-mod first;
 mod form;
 mod line;
 mod load;
-mod run;
+mod netlist;
 mod sim;
 mod simulate;
 mod status;

@@ -1,76 +1,77 @@
-ghost use Rattle.std.specs.Prelude.{◌≡◌, ◌≤◌, None, IfOk, IfErr};
-ghost use Rattle.std.specs.Io.KnownBytes.{IsAtEnd};
-ghost use Rattle.stim_read.specs.Stimulus.{AreNames, names_of};
-ghost use Rattle.stim_read.specs.Reading.{rest};
+//! An accepted design simulated over a stimulus.
+
+ghost use Rattle.std.specs.Prelude.{◌≡◌, ◌≤◌, length, None, IfOk, IfErr};
+ghost use Rattle.net_core.specs.Netlist.{input_nets};
+ghost use Rattle.net_core.specs.WellFormed.{IsFlat};
+ghost use Rattle.net_levels.specs.Levels.{AreLevels};
+ghost use Rattle.vlog_parse.specs.declared.tree.Module.{Module as ModuleOf};
+ghost use Rattle.vlog_check.specs.Checked.{IsChecked};
+ghost use Rattle.stim_read.specs.Ports as ports;
+ghost use Rattle.stim_read.specs.Reading.{Begins};
 ghost use Rattle.stim_read.specs.Streams.{IsDrained};
-ghost use Rattle.ila_top.specs.Rows.{IsAheadIfTold, BeginCause, SimulationCause, SimulationLeaves};
+ghost use Rattle.elab_design.specs.Design.{Design, IsTop};
+ghost use Rattle.elab_design.specs.Elaborates.{Elaborates};
+ghost use Rattle.ila_top.specs.Answers.{SimAnswer, BeginAnswer, LeavesTrace};
 
-use crate::first::netlist::Netlist;
-use crate::first::outputs::{blank_line, header_line};
-use crate::first::simulate::Simulator;
-use crate::run::run;
 use crate::status::Status;
-use ila_base::{NoMemory, Sink, Source, write_all};
+use clock_sim::Plain;
+use design_text::{inputs_agree, shows_design};
+use ila_base::{Sink, Source};
+use ila_session::{SessionFault, show};
+use net_core::Flat;
+use net_levels::types::Levels;
 use std::alloc::Global;
-use stim_read::{DataInput, Stim, StimStop};
-
-/// Simulates the netlist over the stimulus, and writes the outputs text to the trace. It takes its
-/// memory before the first row, and writes nothing before the stimulus's header was accepted.
-pub fn simulate<S: Source, K: Sink>(
-    alloc: Global,
-    netlist: &Netlist,
-    inputs: &[DataInput],
-    stimulus: &mut S,
-    trace: &mut K,
-) -> Status
-    requires { AreNames (names_of inputs.now) }
-    ensures cause { SimulationCause inputs.now (S.left stimulus.old) (S.faults stimulus.old) (S.faults stimulus.new) (K.faults trace.old) (K.faults trace.new) result }
-    ensures done { result ≡ Status.Done → IsAtEnd (S.left stimulus.new) }
-    ensures leaves { SimulationLeaves (K.written trace.old) (K.written trace.new) result }
-    ensures read_later { S.faults stimulus.old ≤ S.faults stimulus.new }
-    ensures write_later { K.faults trace.old ≤ K.faults trace.new }
-{
-    let Ok((mut simulator, header, mut line)) = prepare(alloc, netlist) else {
-        return Status::NoMemory;
-    };
-    let mut stim = match begin(alloc, inputs, stimulus) {
-        Ok(stim) => stim,
-        Err(status) => return status,
-    };
-    if write_all(trace, &header).is_err() {
-        return Status::WriteFault;
-    }
-    run(
-        netlist,
-        &mut simulator,
-        &mut line,
-        &mut stim,
-        stimulus,
-        trace,
-    )
-}
-
-// What a simulation needs of memory: the simulator, the first line, and a line for each clock.
-fn prepare(alloc: Global, netlist: &Netlist) -> Result<(Simulator, Vec<u8>, Vec<u8>), NoMemory> {
-    let simulator = Simulator::new(alloc, netlist)?;
-    let header = header_line(alloc, &netlist.outputs)?;
-    let line = blank_line(alloc, netlist.outputs.len())?;
-    Ok((simulator, header, line))
-}
+use stim_read::{Stim, StimStop};
 
 // Reads the header of the stimulus.
-fn begin<S: Source>(alloc: Global, inputs: &[DataInput], stimulus: &mut S) -> Result<Stim, Status>
-    requires { AreNames (names_of inputs.now) }
-    ensures ahead { IfOk result (λ stim. IsAheadIfTold inputs.now (S.left stimulus.old) stim (rest stim (S.left stimulus.new))) }
-    ensures unrefused { IfOk result (λ stim. stim.refused ≡ None) }
+fn begin<S: Source>(alloc: Global, flat: &Flat, stimulus: &mut S) -> Result<Stim, Status>
+    ensures begun { IfOk result (λ stim. Begins (ports.data_inputs flat.now) (S.left stimulus.old) (S.left stimulus.new) stim) }
+    ensures size { IfOk result (λ stim. length stim.bits ≡ length (input_nets flat.now)) }
     ensures drained { IfOk result (λ stim. IsDrained stim.ended (S.left stimulus.new)) }
-    ensures cause { IfErr result (BeginCause inputs.now (S.left stimulus.old) (S.faults stimulus.old) (S.faults stimulus.new)) }
+    ensures cause { IfErr result (BeginAnswer (ports.data_inputs flat.now) (S.left stimulus.old) (S.faults stimulus.old) (S.faults stimulus.new)) }
     ensures later { S.faults stimulus.old ≤ S.faults stimulus.new }
 {
-    match Stim::over(alloc, stimulus, inputs) {
+    match Stim::new(alloc, stimulus, flat) {
         Ok(stim) => Ok(stim),
         Err(StimStop::Refused(why)) => Err(Status::Stimulus(why)),
         Err(StimStop::ReadFault) => Err(Status::ReadFault),
         Err(StimStop::NoMemory) => Err(Status::NoMemory),
+    }
+}
+
+/// Simulates a flat netlist over the stimulus, and writes the outputs text to the trace. Where the
+/// netlist is that of a checked design, all is said of the design.
+pub fn simulate<S: Source, K: Sink>(
+    alloc: Global,
+    flat: &Flat,
+    levels: &Levels,
+    stimulus: &mut S,
+    trace: &mut K,
+) -> Status
+    requires flat { IsFlat flat.now }
+    requires levels { AreLevels flat.now levels.now }
+    ensures answers { (d : Design) (top : ModuleOf) → IsChecked d.tree d.top → IsTop d top → Elaborates d flat.now → SimAnswer d top
+        (record { left = S.left stimulus.old; read_faults = S.faults stimulus.old; written = K.written trace.old; write_faults = K.faults trace.old })
+        (record { left = S.left stimulus.new; read_faults = S.faults stimulus.new; written = K.written trace.new; write_faults = K.faults trace.new })
+        result }
+    ensures leaves { LeavesTrace (K.written trace.old) (K.written trace.new) result }
+    ensures read_later { S.faults stimulus.old ≤ S.faults stimulus.new }
+    ensures write_later { K.faults trace.old ≤ K.faults trace.new }
+{
+    inputs_agree();
+    shows_design();
+    let Ok(mut machine) = Plain::new(alloc, flat, levels) else {
+        return Status::NoMemory;
+    };
+    let mut stim = match begin(alloc, flat, stimulus) {
+        Ok(stim) => stim,
+        Err(status) => return status,
+    };
+    match show(alloc, &mut machine, flat, &mut stim, stimulus, trace) {
+        Ok(_) => Status::Done,
+        Err(SessionFault::Stimulus(why)) => Status::Stimulus(why),
+        Err(SessionFault::ReadFault) => Status::ReadFault,
+        Err(SessionFault::WriteFault) => Status::WriteFault,
+        Err(SessionFault::NoMemory) => Status::NoMemory,
     }
 }

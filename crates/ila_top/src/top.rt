@@ -1,5 +1,5 @@
-ghost use Rattle.std.specs.Prelude.{◌≡◌, ◌≤◌, [], map, string_bytes};
-ghost use Rattle.ila_top.specs.Answers.{Cause, Stands, IsReported};
+ghost use Rattle.std.specs.Prelude.{◌≡◌, ◌≤◌, [], map, Some, string_bytes};
+ghost use Rattle.ila_top.specs.Answers.{SimWords, sim_words, Cause, IsClear, IsDone, Stands, IsReported};
 
 use crate::ending::report;
 use crate::form::sim_of;
@@ -7,6 +7,33 @@ use crate::sim::sim;
 use crate::status::Status;
 use ila_base::{Shelf, Sink, Source};
 use std::alloc::Global;
+
+// Does what the words say, and tells how it ended.
+fn answer<H: Shelf, S: Source, K: Sink>(
+    alloc: Global,
+    words: &[String],
+    shelf: &mut H,
+    stimulus: &mut S,
+    trace: &mut K,
+) -> Status
+    ensures cause { Cause (map string_bytes words.now)
+        (record { files = H.files shelf.old; shelf_faults = H.faults shelf.old; left = S.left stimulus.old; read_faults = S.faults stimulus.old; written = K.written trace.old; write_faults = K.faults trace.old })
+        (record { files = H.files shelf.new; shelf_faults = H.faults shelf.new; left = S.left stimulus.new; read_faults = S.faults stimulus.new; written = K.written trace.new; write_faults = K.faults trace.new })
+        result }
+    ensures complete { (sim : SimWords) → sim_words (map string_bytes words.now) ≡ Some sim → IsClear sim
+        (record { files = H.files shelf.old; shelf_faults = H.faults shelf.old; left = S.left stimulus.old; read_faults = S.faults stimulus.old; written = K.written trace.old; write_faults = K.faults trace.old })
+        (record { files = H.files shelf.new; shelf_faults = H.faults shelf.new; left = S.left stimulus.new; read_faults = S.faults stimulus.new; written = K.written trace.new; write_faults = K.faults trace.new })
+        → IsDone result }
+    ensures stands { Stands
+        (record { files = H.files shelf.old; shelf_faults = H.faults shelf.old; left = S.left stimulus.old; read_faults = S.faults stimulus.old; written = K.written trace.old; write_faults = K.faults trace.old })
+        (record { files = H.files shelf.new; shelf_faults = H.faults shelf.new; left = S.left stimulus.new; read_faults = S.faults stimulus.new; written = K.written trace.new; write_faults = K.faults trace.new })
+        result }
+{
+    match sim_of(words) {
+        Some(words) => sim(alloc, &words, shelf, stimulus, trace),
+        None => Status::Usage,
+    }
+}
 
 /// Does what the words say, which are those of the command line behind the program's name: `sim
 /// NETLIST TOP CLOCK` simulates a netlist over the stimulus and writes its outputs to the trace. For
@@ -24,6 +51,12 @@ pub fn ila<H: Shelf, S: Source, K: Sink, E: Sink>(
         (record { files = H.files shelf.old; shelf_faults = H.faults shelf.old; left = S.left stimulus.old; read_faults = S.faults stimulus.old; written = K.written trace.old; write_faults = K.faults trace.old })
         (record { files = H.files shelf.new; shelf_faults = H.faults shelf.new; left = S.left stimulus.new; read_faults = S.faults stimulus.new; written = K.written trace.new; write_faults = K.faults trace.new })
         result }
+    // Where the words are those of `sim`, no sentence of a refusal holds and no count has risen, it is
+    // done, or memory wasn't found.
+    ensures complete { (sim : SimWords) → sim_words (map string_bytes words.now) ≡ Some sim → IsClear sim
+        (record { files = H.files shelf.old; shelf_faults = H.faults shelf.old; left = S.left stimulus.old; read_faults = S.faults stimulus.old; written = K.written trace.old; write_faults = K.faults trace.old })
+        (record { files = H.files shelf.new; shelf_faults = H.faults shelf.new; left = S.left stimulus.new; read_faults = S.faults stimulus.new; written = K.written trace.new; write_faults = K.faults trace.new })
+        → IsDone result }
     // What stands of files, stimulus and trace after each answer.
     ensures stands { Stands
         (record { files = H.files shelf.old; shelf_faults = H.faults shelf.old; left = S.left stimulus.old; read_faults = S.faults stimulus.old; written = K.written trace.old; write_faults = K.faults trace.old })
@@ -33,9 +66,6 @@ pub fn ila<H: Shelf, S: Source, K: Sink, E: Sink>(
     ensures line { IsReported (E.written errors.old) (E.written errors.new) (E.faults errors.old) (E.faults errors.new) result [] }
     ensures later { E.faults errors.old ≤ E.faults errors.new }
 {
-    let status = match sim_of(words) {
-        Some(words) => sim(alloc, &words, shelf, stimulus, trace),
-        None => Status::Usage,
-    };
+    let status = answer(alloc, words, shelf, stimulus, trace);
     report(errors, status)
 }

@@ -3,3 +3,9 @@ pub mod SearchLemmas
 pub mod CycleLemmas
 pub mod OrderLemmas
 pub mod ReachLemmas
+pub mod FarLemmas
+pub mod StepLemmas
+pub mod ComponentLemmas
+pub mod OpenLemmas
+pub mod CloseLemmas
+pub mod TurnLemmas

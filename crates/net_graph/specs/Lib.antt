@@ -3,3 +3,5 @@ pub mod Graph
 pub mod Search
 pub mod Laws
 pub mod Reach
+pub mod Recurrent
+pub mod Components

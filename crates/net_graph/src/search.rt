@@ -102,7 +102,7 @@ impl Search {
 }
 
 // The node that leads to the step's node along its next edge.
-fn source_at(graph: &Graph, step: Step) -> Option<u32>
+pub fn source_at(graph: &Graph, step: Step) -> Option<u32>
     requires { step.node + 1 < length graph.now.starts.items }
     ensures found { IfSome result (λ m. (step.next < slice_index graph.now.starts.items (step.node + 1)) × (slice_get graph.now.sources.items step.next ≡ Some m)) }
     ensures missing { IfNone result (slice_index graph.now.starts.items (step.node + 1) ≤ step.next) }

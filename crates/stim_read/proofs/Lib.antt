@@ -11,3 +11,5 @@ pub mod Rooms
 pub mod Answered
 pub mod Begun
 pub mod Once
+mod DataPorts
+mod DataNames

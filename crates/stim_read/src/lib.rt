@@ -8,6 +8,7 @@ mod inputs;
 mod laws;
 mod layout;
 mod line_reader;
+mod ports;
 mod row;
 mod stim;
 #[cfg(test)]
@@ -16,4 +17,5 @@ mod tests;
 pub use faults::{StimFault, StimStop};
 pub use inputs::{DataInput, Field};
 pub use laws::{rows_are_one, rows_are_taken};
+pub use ports::data_inputs;
 pub use stim::Stim;

@@ -5,6 +5,8 @@ ghost use Rattle.ila_base.specs.declared.refusal.StimRefusal.{StimRefusal};
 ghost use Rattle.ila_base.specs.declared.refusal.StimRefusal.TheVariants as refusal;
 ghost use Rattle.stim_read.specs.declared.faults.StimFault.TheVariants as fault;
 ghost use Rattle.stim_read.specs.declared.faults.StimStop.TheVariants as stop;
+ghost use Rattle.net_core.specs.Netlist.{input_nets};
+ghost use Rattle.stim_read.specs.Ports.{data_inputs};
 ghost use Rattle.stim_read.specs.Stimulus.{IsRow, AreNames, names_of};
 ghost use Rattle.stim_read.specs.Words.{AllFit, AllApart};
 ghost use Rattle.stim_read.specs.Reading.{Reading, rest, most_rows, TakesRow, Refuses, RefusesLine, IsSomeRow, Begins, HasNoHeader};
@@ -15,8 +17,10 @@ use crate::header::header;
 use crate::inputs::{DataInput, Field};
 use crate::layout::{fields_in_order, room};
 use crate::line_reader::{LineEnd, LineReader};
+use crate::ports::data_inputs;
 use crate::row::read_row;
 use ila_base::{NoMemory, Source, StimRefusal};
+use net_core::Flat;
 use std::alloc::Global;
 use std::marker::Model;
 use std::mem;
@@ -118,6 +122,21 @@ impl Stim {
             taken: 0,
             refused: None,
         })
+    }
+
+    /// Begins to read a stimulus of this netlist, whose data inputs are its input ports but the
+    /// clock's. It reads the first line alone, and takes all memory. Refused carries S1, where that
+    /// line is no header or there is none.
+    pub fn new<S: Source>(alloc: Global, source: &mut S, flat: &Flat) -> Result<Stim, StimStop>
+        ensures begun { IfOk result (λ stim. Begins (data_inputs flat.now) (S.left source.old) (S.left source.new) stim) }
+        ensures size { IfOk result (λ stim. length stim.bits ≡ length (input_nets flat.now)) }
+        ensures refused { (why : StimRefusal) → result ≡ Err (stop.Refused why) → (why ≡ refusal.Header) × HasNoHeader (data_inputs flat.now) (S.left source.old) }
+        ensures cause { result ≡ Err stop.ReadFault → Rose (S.faults source.old) (S.faults source.new) }
+        ensures drained { IfOk result (λ stim. IsDrained stim.ended (S.left source.new)) }
+        ensures later { S.faults source.old ≤ S.faults source.new }
+    {
+        let inputs = data_inputs(alloc, flat)?;
+        Stim::over(alloc, source, inputs.as_slice())
     }
 
     /// The bits of the row taken last: the inputs in their order, each with its leftmost bit first.

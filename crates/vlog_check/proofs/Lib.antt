@@ -9,3 +9,8 @@ pub mod InputLaws
 pub mod MissingLaws
 pub mod FewLaws
 pub mod DesignLaws
+pub mod ContainedLaws
+pub mod CheckedLaws
+pub mod ToldLaws
+pub mod TellingLaws
+pub mod OneLaws

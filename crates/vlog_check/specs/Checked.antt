@@ -1,5 +1,5 @@
 -- A checked design: nothing is found, the top is there, and no module contains itself. And why a design is refused.
-use Rattle.std.specs.Prelude.{◌≡◌, ℕ, ◌≤◌, List, slice_get, Some, None, ◌⊎◌}
+use Rattle.std.specs.Prelude.{◌≡◌, ℕ, ◌≤◌, List, slice_get, Option, Some, None, ◌⊎◌}
 use Rattle.ila_base.specs.declared.refusal.NetRefusal.TheVariants.{Recursion, TopOrClock}
 use Rattle.vlog_lex.specs.declared.token.NetFault.{NetFault}
 use Rattle.vlog_parse.specs.declared.tree.Tree.{Tree}
@@ -65,6 +65,11 @@ pub record IsChecked (tree : Tree) (top : List ℕ) : Type 0 where
   pub there : module_number tree top ≡ Some number
   pub ends : (n : ℕ) → IsRecursive tree number n → ⊥
 
+-- a tree and the name of its top
+pub record Design : Type 0 where
+  pub tree : Tree
+  pub top : List ℕ
+
 -- Refusals
 
 abbrev pub nowhere : NetFault → Type 0
@@ -84,3 +89,8 @@ pub data IsRefused (tree : Tree) (top : List ℕ) (fault : NetFault) : Type 0 wh
   no_top : IsLeastFinding (Finds tree) None → module_number tree top ≡ None → nowhere fault → fault.refusal ≡ TopOrClock top → IsRefused tree top fault
   recursion : (number n : ℕ) (name : List ℕ) → IsLeastFinding (Finds tree) None → module_number tree top ≡ Some number
       → IsFirstRecursive tree number n name → nowhere fault → fault.refusal ≡ Recursion name → IsRefused tree top fault
+
+-- the design is checked, or this is why it is refused
+abbrev pub IsFault : Tree → List ℕ → Option NetFault → Type 0
+IsFault tree top None = IsChecked tree top
+IsFault tree top (Some fault) = IsRefused tree top fault

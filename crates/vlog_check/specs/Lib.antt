@@ -10,3 +10,5 @@ pub mod Kinds
 pub mod Given
 pub mod Design
 pub mod CellRows
+pub mod Contained
+pub mod Places

@@ -3,6 +3,7 @@ ghost use Rattle.vlog_check.specs.Found.{key_of, number_of, is_later, earlier};
 
 use ila_base::{NetRefusal, Place};
 use std::cmp::Ordering;
+use vlog_lex::NetFault;
 
 /// What a finding counts by among those of its number at its place, in this order.
 #[derive(Clone, Copy, Debug)]
@@ -46,6 +47,19 @@ impl Found {
         let col = self.place.col as u64;
         let number = number_of(&self.refusal);
         [line, col, self.subject, number, part, at]
+    }
+
+    /// What the finding says of the netlist.
+    pub fn fault(self) -> NetFault
+        ensures { result ≡ record { refusal = self.refusal; place = self.place } }
+    {
+        let Found {
+            place,
+            subject: _,
+            detail: _,
+            refusal,
+        } = self;
+        NetFault { refusal, place }
     }
 
     // Whether the finding counts behind another.

@@ -2,7 +2,9 @@
 //! clauses 4, 5, 6, 7 and 12; UG953 for the primitives' pins and parameters).
 #![tactic(auto)]
 
+mod checked;
 mod connect;
+mod contained;
 mod design;
 mod expr;
 mod found;
@@ -19,4 +21,8 @@ mod table;
 mod whole;
 mod width;
 
-pub use laws::rows_agree;
+pub use checked::{Checked, check};
+pub use expr::range_width;
+pub use laws::{one_finding, one_refusal, rows_agree};
+pub use primitive::{CellPin, Primitive, Size, cell_of, pins};
+pub use table::Table;

@@ -17,6 +17,7 @@ use Rattle.vlog_lex.specs.Reading.{piece_at, bytes_of}
 use Rattle.vlog_lex.specs.Taking.{IsTaken, IsFlawAt}
 use Rattle.vlog_lex.proofs.Found.{Begins}
 use Rattle.vlog_lex.proofs.PieceLaws.{Told, piece_told}
+use Rattle.vlog_lex.proofs.SettleLaws.{IsCutOff}
 
 -- a column is no further than there are bytes before it
 pub col_at : (text : List ℕ) (at : ℕ) (place : Place) → at ≤ length text → place ≡ place_behind (take at text) → place.col ≤ at + 1
@@ -66,7 +67,7 @@ module _ (text : List ℕ) (at : ℕ) (within : at < length text) where
   pub taken_within : (place : Place) (piece : Piece) (count : ℕ) (old new : List Token) → piece ≡ piece_at (drop at text) → IsTaken at place piece count old new → (0 < count) × (at + count ≤ length text)
   taken_within place piece count old new is taken = taken_count place piece count old new (told piece is) taken
 
-  rests : (place : Place) (piece : Piece) (count : ℕ) (old new : List Token) → place ≡ place_behind (take at text) → Told piece (drop at text) → IsTaken at place piece count old new → Rests text at old → Rests text (at + count) new
+  rests : (place : Place) (piece : Piece) (count : ℕ) (old new : List Token) → place ≡ place_behind (take at text) → Told piece (drop at text) → IsCutOff at place piece count old new → Rests text at old → Rests text (at + count) new
   rests place (Skip n) count old new there t taken so more fault c =
       let here : Cuts (take (at + n) text) (drop (at + n) text) more fault = subst (λ k. Cuts (take (at + k) text) (drop (at + k) text) more fault) taken.0 c in
       let moved : Cuts (take at text ++ t.bytes) t.rest more fault = subst (λ r. Cuts (take at text ++ t.bytes) r more fault) (behind t) (subst (λ b. Cuts b (drop (at + n) text) more fault) (before t) here) in
@@ -80,7 +81,7 @@ module _ (text : List ℕ) (at : ℕ) (within : at < length text) where
       rw (taken.1, append_assoc old (token ∷ []) more) (so (token ∷ more) fault (takes kind t.bytes t.rest more t.whole t.holds same moved))
   rests place (Refused flaw) count old new there t taken so more fault c = absurd taken
 
-  pub piece_rests : (place : Place) (piece : Piece) (count : ℕ) (old new : List Token) → place ≡ place_behind (take at text) → piece ≡ piece_at (drop at text) → IsTaken at place piece count old new → Rests text at old → Rests text (at + count) new
+  pub piece_rests : (place : Place) (piece : Piece) (count : ℕ) (old new : List Token) → place ≡ place_behind (take at text) → piece ≡ piece_at (drop at text) → IsCutOff at place piece count old new → Rests text at old → Rests text (at + count) new
   piece_rests place piece count old new there is taken so = rests place piece count old new there (told piece is) taken so
 
   -- the text is refused for the flaw that the piece is

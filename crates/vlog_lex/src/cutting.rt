@@ -1,17 +1,19 @@
 ghost use Rattle.std.specs.Prelude.{◌≡◌, ℕ, List, [], ◌+◌, ◌^◌, ◌<◌, ◌≤◌, Some, None, length, IfOk, IfErr};
 ghost use Rattle.vlog_lex.specs.declared.token.Token.{Token as TokenOf};
-ghost use Rattle.vlog_lex.specs.Cutting.{Cuts, StopsFor};
+ghost use Rattle.vlog_lex.specs.Cutting.{Cuts, settled, StopsFor};
 ghost use Rattle.vlog_lex.specs.Reading.{bytes_of};
 ghost use Rattle.vlog_lex.specs.Taking.{IsTaken, IsFlawAt};
 
 use crate::directive::last_endif;
+use crate::marks::{is_mark_of, settle_last};
 use crate::piece::piece_at;
 use crate::place::place_behind;
 use crate::token::{NetFault, NetStop, Piece, Token};
 use ila_base::Place;
 use std::alloc::Global;
 
-/// Adds the token that a piece is, if it is one, and gives the count of the piece's bytes.
+/// Adds the token that a piece is, if it is one, to those before it, of which the last is settled
+/// then, and gives the count of the piece's bytes.
 fn take_piece(
     tokens: &mut Vec<Token>,
     at: usize,
@@ -25,6 +27,7 @@ fn take_piece(
     match piece {
         Piece::Skip(count) => Ok(count),
         Piece::Token(kind, count) => {
+            settle_last(tokens, is_mark_of(b'(', kind));
             let start = at as u32;
             let end = (at + count) as u32;
             tokens.push(Token {
@@ -42,10 +45,10 @@ fn take_piece(
     }
 }
 
-/// The tokens of a text, each `#` as a mark.
+/// The tokens of a text.
 pub fn cut(alloc: Global, text: &[u8]) -> Result<Vec<Token>, NetStop>
     requires { length text.now ≤ 67108864 }
-    ensures found { IfOk result (λ tokens. Cuts [] text.now tokens.items None) }
+    ensures found { IfOk result (λ tokens. (pieces : List TokenOf) × Cuts [] text.now pieces None × (tokens.items ≡ settled pieces)) }
     ensures refused { IfErr result (StopsFor (λ fault. (tokens : List TokenOf) × Cuts [] text.now tokens (Some fault))) }
 {
     let closing = last_endif(text);
@@ -59,5 +62,6 @@ pub fn cut(alloc: Global, text: &[u8]) -> Result<Vec<Token>, NetStop>
         place = place_behind(place, &rest[..count]);
         at += count;
     }
+    settle_last(&mut tokens, false);
     Ok(tokens)
 }

@@ -3,7 +3,6 @@ ghost use Rattle.vlog_lex.specs.declared.token.Token.{Token as TokenOf};
 ghost use Rattle.vlog_lex.specs.Cutting.{IsReading, StopsFor, AreTokens, IsWithin, RiseFrom, HasWord};
 
 use crate::cutting::cut;
-use crate::marks::settle;
 use crate::token::{NetFault, NetStop, Token};
 use ila_base::{LimitKind, NetRefusal, Place};
 use std::alloc::Global;
@@ -39,7 +38,6 @@ pub fn tokens(alloc: Global, text: &[u8]) -> Result<Vec<Token>, NetStop>
             place: Place::NOWHERE,
         }));
     }
-    let mut tokens = cut(alloc, text)?;
-    settle(&mut tokens);
+    let tokens = cut(alloc, text)?;
     Ok(tokens)
 }

@@ -1,9 +1,11 @@
-ghost use Rattle.std.specs.Prelude.{◌≡◌, drop};
-ghost use Rattle.vlog_lex.specs.Cutting.{is_mark_of, parenthesis_next, settled_token, settled};
+ghost use Rattle.std.specs.Prelude.{◌≡◌};
+ghost use Rattle.vlog_lex.specs.Cutting.{is_mark_of};
+ghost use Rattle.vlog_lex.specs.Taking.{settled_last};
 
 use crate::token::{Token, TokenKind};
 
-fn is_mark_of(mark: u8, kind: TokenKind) -> bool
+/// Whether the token is this mark.
+pub fn is_mark_of(mark: u8, kind: TokenKind) -> bool
     ensures { result ≡ is_mark_of mark kind }
 {
     match kind {
@@ -12,34 +14,22 @@ fn is_mark_of(mark: u8, kind: TokenKind) -> bool
     }
 }
 
-fn parenthesis_at(tokens: &[Token], at: usize) -> bool
-    ensures { result ≡ parenthesis_next (drop at tokens.now) }
+/// Leaves the last token a mark `#` only where the next one is `(`.
+pub fn settle_last(tokens: &mut Vec<Token>, parenthesis: bool)
+    ensures { tokens.new.items ≡ settled_last tokens.old.items parenthesis }
 {
-    match tokens.get(at) {
-        Some(token) => is_mark_of(b'(', token.kind),
-        None => false,
+    let count = tokens.len();
+    if parenthesis {
+        return;
     }
-}
-
-fn settled_token(token: Token, parenthesis: bool) -> Token
-    ensures { result ≡ settled_token token parenthesis }
-{
-    if is_mark_of(b'#', token.kind) && !parenthesis {
-        return Token {
+    if count == 0 {
+        return;
+    }
+    let last = tokens[count - 1];
+    if is_mark_of(b'#', last.kind) {
+        tokens[count - 1] = Token {
             kind: TokenKind::Outside,
-            ..token
+            ..last
         };
-    }
-    token
-}
-
-/// Leaves each `#` a mark only where the next token is `(`.
-pub fn settle(tokens: &mut Vec<Token>)
-    ensures { tokens.new.items ≡ settled tokens.old.items }
-{
-    for at in 0..tokens.len() {
-        let parenthesis = parenthesis_at(tokens, at + 1);
-        let token = tokens[at];
-        tokens[at] = settled_token(token, parenthesis);
     }
 }

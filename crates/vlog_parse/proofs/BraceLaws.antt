@@ -10,7 +10,8 @@ use Rattle.vlog_parse.specs.declared.sort.Sort.TheVariants.{LeftBrace, RightBrac
 use Rattle.vlog_parse.specs.Lexemes.{Lexeme}
 use Rattle.vlog_parse.specs.Expressions.{is, mark, name, number, part_behind, bit_behind, select_behind, reference, constant, operand, args, concatenation, expr_within}
 use Rattle.vlog_parse.specs.Skipping.{cut_within}
-use Rattle.vlog_parse.proofs.SortLaws.{excludes}
+use Rattle.grammar.specs.SortLaws.{excludes}
+use Rattle.vlog_parse.proofs.SortLaws.{sorts}
 use Rattle.vlog_parse.proofs.DepthLaws.{cut_covers}
 
 abbrev pub weight : Bool → ℕ
@@ -83,7 +84,7 @@ balanced_words rule one ts [] w = along ts [] w refl
 balanced_words rule one ts (x ∷ xs) (front, back, whole, w, ws) = balanced_parts ts front back whole (one.counts front x w) (balanced_words rule one back xs ws)
 
 pub comma_balanced : Balanced (Unit {0}) (mark Comma)
-comma_balanced = balanced_token Comma (λ _. tt {0}) (excludes (is Comma) (sees (is LeftBrace)) (λ t. refl) (λ t. refl) refl) (excludes (is Comma) (sees (is RightBrace)) (λ t. refl) (λ t. refl) refl)
+comma_balanced = balanced_token Comma (λ _. tt {0}) (excludes sorts (is Comma) (sees (is LeftBrace)) (λ t. refl) (λ t. refl) refl) (excludes sorts (is Comma) (sees (is RightBrace)) (λ t. refl) (λ t. refl) refl)
 
 pub next_balanced : (rule : Rule Lexeme Expr) → Balanced Expr rule → Balanced Expr (separated (is Comma) rule)
 next_balanced rule one = balanced_then (mark Comma) (λ _. rule) comma_balanced (λ _. one)
@@ -95,22 +96,22 @@ args_balanced rule one =
     (λ xs. balanced_pure (x ∷ xs)))
 
 name_balanced : Balanced Named name
-name_balanced = balanced_token Name _ (excludes (is Name) (sees (is LeftBrace)) (λ t. refl) (λ t. refl) refl) (excludes (is Name) (sees (is RightBrace)) (λ t. refl) (λ t. refl) refl)
+name_balanced = balanced_token Name _ (excludes sorts (is Name) (sees (is LeftBrace)) (λ t. refl) (λ t. refl) refl) (excludes sorts (is Name) (sees (is RightBrace)) (λ t. refl) (λ t. refl) refl)
 
 number_balanced : Balanced ℕ number
-number_balanced = balanced_token Number _ (excludes (is Number) (sees (is LeftBrace)) (λ t. refl) (λ t. refl) refl) (excludes (is Number) (sees (is RightBrace)) (λ t. refl) (λ t. refl) refl)
+number_balanced = balanced_token Number _ (excludes sorts (is Number) (sees (is LeftBrace)) (λ t. refl) (λ t. refl) refl) (excludes sorts (is Number) (sees (is RightBrace)) (λ t. refl) (λ t. refl) refl)
 
 close_bracket : Balanced (Unit {0}) (mark RightBracket)
-close_bracket = balanced_token RightBracket (λ _. tt {0}) (excludes (is RightBracket) (sees (is LeftBrace)) (λ t. refl) (λ t. refl) refl) (excludes (is RightBracket) (sees (is RightBrace)) (λ t. refl) (λ t. refl) refl)
+close_bracket = balanced_token RightBracket (λ _. tt {0}) (excludes sorts (is RightBracket) (sees (is LeftBrace)) (λ t. refl) (λ t. refl) refl) (excludes sorts (is RightBracket) (sees (is RightBrace)) (λ t. refl) (λ t. refl) refl)
 
 open_bracket : Balanced (Unit {0}) (mark LeftBracket)
-open_bracket = balanced_token LeftBracket (λ _. tt {0}) (excludes (is LeftBracket) (sees (is LeftBrace)) (λ t. refl) (λ t. refl) refl) (excludes (is LeftBracket) (sees (is RightBrace)) (λ t. refl) (λ t. refl) refl)
+open_bracket = balanced_token LeftBracket (λ _. tt {0}) (excludes sorts (is LeftBracket) (sees (is LeftBrace)) (λ t. refl) (λ t. refl) refl) (excludes sorts (is LeftBracket) (sees (is RightBrace)) (λ t. refl) (λ t. refl) refl)
 
 colon_balanced : Balanced (Unit {0}) (mark Colon)
-colon_balanced = balanced_token Colon (λ _. tt {0}) (excludes (is Colon) (sees (is LeftBrace)) (λ t. refl) (λ t. refl) refl) (excludes (is Colon) (sees (is RightBrace)) (λ t. refl) (λ t. refl) refl)
+colon_balanced = balanced_token Colon (λ _. tt {0}) (excludes sorts (is Colon) (sees (is LeftBrace)) (λ t. refl) (λ t. refl) refl) (excludes sorts (is Colon) (sees (is RightBrace)) (λ t. refl) (λ t. refl) refl)
 
 constant_balanced : Balanced Expr constant
-constant_balanced = balanced_token Sized _ (excludes (is Sized) (sees (is LeftBrace)) (λ t. refl) (λ t. refl) refl) (excludes (is Sized) (sees (is RightBrace)) (λ t. refl) (λ t. refl) refl)
+constant_balanced = balanced_token Sized _ (excludes sorts (is Sized) (sees (is LeftBrace)) (λ t. refl) (λ t. refl) refl) (excludes sorts (is Sized) (sees (is RightBrace)) (λ t. refl) (λ t. refl) refl)
 
 operand_balanced : Balanced Expr operand
 operand_balanced =
@@ -128,12 +129,12 @@ operand_balanced =
 -- an opening brace and a closing one
 pub open_counts : (t : Lexeme) → is LeftBrace t ≡ true → (opens (t ∷ []) ≡ 1) × (closes (t ∷ []) ≡ 0)
 open_counts t passes =
-    let apart : Excludes (is LeftBrace) (sees (is RightBrace)) = excludes (is LeftBrace) (sees (is RightBrace)) (λ u. refl) (λ u. refl) refl in
+    let apart : Excludes (is LeftBrace) (sees (is RightBrace)) = excludes sorts (is LeftBrace) (sees (is RightBrace)) (λ u. refl) (λ u. refl) refl in
     (counts_one (is LeftBrace) t 1 (one_of (is LeftBrace t) passes), counts_one (is RightBrace) t 0 (none_of (is RightBrace t) (apart t passes)))
 
 close_counts : (t : Lexeme) → is RightBrace t ≡ true → (opens (t ∷ []) ≡ 0) × (closes (t ∷ []) ≡ 1)
 close_counts t passes =
-    let apart : Excludes (is RightBrace) (sees (is LeftBrace)) = excludes (is RightBrace) (sees (is LeftBrace)) (λ u. refl) (λ u. refl) refl in
+    let apart : Excludes (is RightBrace) (sees (is LeftBrace)) = excludes sorts (is RightBrace) (sees (is LeftBrace)) (λ u. refl) (λ u. refl) refl in
     (counts_one (is LeftBrace) t 0 (none_of (is LeftBrace t) (apart t passes)), counts_one (is RightBrace) t 1 (one_of (is RightBrace t) passes))
 
 concatenation_balanced : (rule : Rule Lexeme Expr) → Balanced Expr rule → Balanced Expr (concatenation rule)

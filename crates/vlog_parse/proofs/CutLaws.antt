@@ -15,9 +15,10 @@ use Rattle.vlog_parse.specs.declared.sort.Sort.TheVariants.{LeftBrace, Name, Siz
 use Rattle.vlog_parse.specs.Lexemes.{Lexeme}
 use Rattle.vlog_parse.specs.Expressions.{is, mark, operand, concatenation, expr}
 use Rattle.vlog_parse.specs.Skipping.{skipped, cut_within}
-use Rattle.vlog_parse.proofs.SortLaws.{within, excludes}
+use Rattle.grammar.specs.SortLaws.{within, excludes}
+use Rattle.vlog_parse.proofs.SortLaws.{sorts}
 use Rattle.vlog_parse.proofs.ExpressionLaws.{no_select, begins_expression, concatenation_good, operand_good, expr_over_good, expr_good}
-use Rattle.vlog_parse.proofs.LoopLaws.{separated_shrinks}
+use Rattle.grammar.specs.LoopLaws.{separated_shrinks}
 
 -- no brace comes next
 pub cut_operand : (n : ℕ) (ts : List Lexeme) → looks (is LeftBrace) ts ≡ false → (cut_within n).read ts ≡ operand.read ts
@@ -41,9 +42,9 @@ skipped_good = then_good _ _ (concatenation_good expr expr_good) (λ _. pure_goo
 
 pub cut_good : (n : ℕ) → Good Lexeme Expr begins_expression no_select (cut_within n)
 cut_good zero =
-    widened (within (or_else (sees (is LeftBrace)) (or_else (sees (is Name)) (sees (is Sized)))) begins_expression (λ t. refl) (λ t. refl) refl refl) (λ o e. e)
+    widened (within sorts (or_else (sees (is LeftBrace)) (or_else (sees (is Name)) (sees (is Sized)))) begins_expression (λ t. refl) (λ t. refl) refl refl) (λ o e. e)
     (either_good (is LeftBrace) _ _ (widened (λ o e. e) (λ o e. refl) skipped_good) operand_good (λ o e. e)
-    (excludes (is LeftBrace) (or_else (sees (is Name)) (sees (is Sized))) (λ t. refl) (λ t. refl) refl))
+    (excludes sorts (is LeftBrace) (or_else (sees (is Name)) (sees (is Sized))) (λ t. refl) (λ t. refl) refl))
 cut_good (suc n) = expr_over_good (cut_within n) (cut_good n)
 
 pub cut_keeps : (n : ℕ) → Keeps (cut_within n)

@@ -22,7 +22,8 @@ use Rattle.vlog_parse.specs.Lexemes.{Lexeme}
 use Rattle.vlog_parse.specs.Expressions.{is, name, expr}
 use Rattle.vlog_parse.specs.Items.{of_sort, item}
 use Rattle.vlog_parse.specs.Design.{ansi, next_part, ansi_ports, plain_ports, some_ports, ports_list, header, body, module_over, design_over, design}
-use Rattle.vlog_parse.proofs.SortLaws.{sample, excludes}
+use Rattle.grammar.specs.SortLaws.{excludes}
+use Rattle.vlog_parse.proofs.SortLaws.{sample, sorts}
 use Rattle.vlog_parse.proofs.ExpressionLaws.{no_select, begins_expression, mark_good, name_good, expr_good}
 use Rattle.vlog_parse.proofs.ItemLaws.{direction_good, some_wire_good, some_range_good, begins_any_item, item_good}
 
@@ -43,7 +44,7 @@ next_part_good =
     then_good _ _ (mark_good Comma)
     (λ _. either_good (of_sort is_direction) _ _ (then_good _ _ ansi_good (λ d. pure_good _ anything) (λ o e. refl))
     (then_good _ _ name_good (λ n. pure_good _ anything) (λ o e. refl)) (λ o e. e)
-    (excludes (of_sort is_direction) (sees (is Name)) (λ t. refl) (λ t. refl) refl))
+    (excludes sorts (of_sort is_direction) (sees (is Name)) (λ t. refl) (λ t. refl) refl))
     (λ o e. refl)
 
 ansi_ports_good : Good Lexeme Header (sees (of_sort is_direction)) (sees (is RightParenthesis)) ansi_ports
@@ -51,7 +52,7 @@ ansi_ports_good =
     then_good _ _ ansi_good
     (λ d. then_good _ _
     (repeat_good (sees (is RightParenthesis)) (is Comma) next_part next_part_good (no_empty next_part next_part_good refl) (λ o e. e) (λ o e. refl)
-    (excludes (is Comma) (sees (is RightParenthesis)) (λ t. refl) (λ t. refl) refl))
+    (excludes sorts (is Comma) (sees (is RightParenthesis)) (λ t. refl) (λ t. refl) refl))
     (λ more. pure_good _ (sees (is RightParenthesis))) (λ o e. e))
     (λ o e. refl)
 
@@ -59,7 +60,7 @@ plain_ports_good : Good Lexeme Header (sees (is Name)) (sees (is RightParenthesi
 plain_ports_good =
     then_good _ _
     (list_good (sees (is RightParenthesis)) (is Comma) (sample Comma) refl name name_good (λ o e. refl) (λ o e. refl)
-    (excludes (is Comma) (sees (is RightParenthesis)) (λ t. refl) (λ t. refl) refl))
+    (excludes sorts (is Comma) (sees (is RightParenthesis)) (λ t. refl) (λ t. refl) refl))
     (λ names. pure_good _ (sees (is RightParenthesis))) (λ o e. e)
 
 abbrev begins_ports : Sight Lexeme
@@ -69,9 +70,9 @@ some_ports_good : Good Lexeme Header begins_ports (sees (is RightParenthesis)) s
 some_ports_good =
     either_good (of_sort is_direction) _ _ ansi_ports_good
     (either_good (is Name) _ _ plain_ports_good (pure_good _ (sees (is RightParenthesis))) (λ o e. e)
-    (excludes (is Name) (sees (is RightParenthesis)) (λ t. refl) (λ t. refl) refl))
+    (excludes sorts (is Name) (sees (is RightParenthesis)) (λ t. refl) (λ t. refl) refl))
     (λ o e. e)
-    (excludes (of_sort is_direction) (or_else (sees (is Name)) (sees (is RightParenthesis))) (λ t. refl) (λ t. refl) refl)
+    (excludes sorts (of_sort is_direction) (or_else (sees (is Name)) (sees (is RightParenthesis))) (λ t. refl) (λ t. refl) refl)
 
 ports_list_good : Good Lexeme Header (sees (is LeftParenthesis)) anything ports_list
 ports_list_good =
@@ -83,7 +84,7 @@ ports_list_good =
 header_good : Good Lexeme Header (or_else (sees (is LeftParenthesis)) (sees (is Semicolon))) (sees (is Semicolon)) header
 header_good =
     either_good (is LeftParenthesis) _ _ (widened (λ o e. e) (λ o e. refl) ports_list_good) (pure_good _ (sees (is Semicolon))) (λ o e. e)
-    (excludes (is LeftParenthesis) (sees (is Semicolon)) (λ t. refl) (λ t. refl) refl)
+    (excludes sorts (is LeftParenthesis) (sees (is Semicolon)) (λ t. refl) (λ t. refl) refl)
 
 module _ (e : Rule Lexeme Expr) (good : Good Lexeme Expr begins_expression no_select e) where
   pub one_item : Good Lexeme (List Item) begins_any_item anything (item e)
@@ -93,7 +94,7 @@ module _ (e : Rule Lexeme Expr) (good : Good Lexeme Expr begins_expression no_se
   body_good =
       then_good _ _
       (repeat_good (sees (is EndModule)) (of_sort begins_item) (item e) one_item (no_empty (item e) one_item refl) (λ o e. e) (λ o e. refl)
-      (excludes (of_sort begins_item) (sees (is EndModule)) (λ t. refl) (λ t. refl) refl))
+      (excludes sorts (of_sort begins_item) (sees (is EndModule)) (λ t. refl) (λ t. refl) refl))
       (λ lists. pure_good _ (sees (is EndModule))) (λ o e. e)
 
   pub module_good : Good Lexeme Module (sees (is ModuleWord)) anything (module_over e)
@@ -110,7 +111,7 @@ module _ (e : Rule Lexeme Expr) (good : Good Lexeme Expr begins_expression no_se
   design_over_good =
       then_good _ _
       (repeat_good at_end (is ModuleWord) (module_over e) module_good (no_empty (module_over e) module_good refl) (λ o e. e) (λ o e. refl)
-      (excludes (is ModuleWord) at_end (λ t. refl) (λ t. refl) refl))
+      (excludes sorts (is ModuleWord) at_end (λ t. refl) (λ t. refl) refl))
       (λ modules. then_good _ _ end_good (λ _. pure_good _ at_end) (λ o e. e))
       (λ o e. e)
 

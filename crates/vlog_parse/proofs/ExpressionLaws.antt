@@ -19,7 +19,8 @@ use Rattle.vlog_parse.specs.Sorts.{same, begins_expr}
 use Rattle.vlog_parse.specs.Lexemes.{Lexeme}
 use Rattle.vlog_parse.specs.Expressions.{is, mark, named, name, number_of, number, range, part_behind, bit_behind, select_behind, reference, constant_of, constant, operand, args, concatenation, expr_over, expr_within, expr}
 use Rattle.vlog_parse.specs.Items.{of_sort}
-use Rattle.vlog_parse.proofs.SortLaws.{holds, sample, within, excludes}
+use Rattle.grammar.specs.SortLaws.{within, excludes}
+use Rattle.vlog_parse.proofs.SortLaws.{holds, sample, sorts}
 
 -- anything but a token that passes
 abbrev pub unless : (Lexeme → Bool) → Sight Lexeme
@@ -67,14 +68,14 @@ pub select_good : (n : Named) → Good Lexeme Expr (sees (is LeftBracket)) anyth
 select_good n =
     then_good _ _ (mark_good LeftBracket)
     (λ _. then_good _ _ number_good
-    (λ left. either_good (is Colon) _ _ (part_good n left) (bit_good n left) (λ o e. e) (excludes (is Colon) (sees (is RightBracket)) (λ t. refl) (λ t. refl) refl))
+    (λ left. either_good (is Colon) _ _ (part_good n left) (bit_good n left) (λ o e. e) (excludes sorts (is Colon) (sees (is RightBracket)) (λ t. refl) (λ t. refl) refl))
     (λ o e. refl)) (λ o e. refl)
 
 pub reference_good : Good Lexeme Expr (sees (is Name)) no_select reference
 reference_good =
     then_good _ _ name_good
     (λ n. either_good (is LeftBracket) _ _ (widened (λ o e. e) (λ o e. refl) (select_good n)) (pure_good _ no_select) (λ o e. e)
-    (excludes (is LeftBracket) no_select (λ t. refl) (λ t. refl) refl))
+    (excludes sorts (is LeftBracket) no_select (λ t. refl) (λ t. refl) refl))
     (λ o e. refl)
 
 pub constant_good : Good Lexeme Expr (sees (is Sized)) anything constant
@@ -83,29 +84,29 @@ constant_good = term_good (is Sized) constant_of (sample Sized) refl
 pub operand_good : Good Lexeme Expr (or_else (sees (is Name)) (sees (is Sized))) no_select operand
 operand_good =
     either_good (is Name) _ _ reference_good (widened (λ o e. e) (λ o e. refl) constant_good) (λ o e. e)
-    (excludes (is Name) (sees (is Sized)) (λ t. refl) (λ t. refl) refl)
+    (excludes sorts (is Name) (sees (is Sized)) (λ t. refl) (λ t. refl) refl)
 
 pub args_good : (expr : Rule Lexeme Expr) (follows : Sight Lexeme) → Good Lexeme Expr begins_expression no_select expr → IsWithin follows no_select → Excludes (is Comma) follows
     → Good Lexeme (List Expr) begins_expression follows (args expr)
 args_good expr follows good may apart =
-    list_good follows (is Comma) (sample Comma) refl expr good (within (sees (is Comma)) no_select (λ t. refl) (λ t. refl) refl refl) may apart
+    list_good follows (is Comma) (sample Comma) refl expr good (within sorts (sees (is Comma)) no_select (λ t. refl) (λ t. refl) refl refl) may apart
 
 pub concatenation_good : (expr : Rule Lexeme Expr) → Good Lexeme Expr begins_expression no_select expr → Good Lexeme Expr (sees (is LeftBrace)) anything (concatenation expr)
 concatenation_good expr good =
     then_good _ _ (mark_good LeftBrace)
-    (λ _. then_good _ _ (args_good expr (sees (is RightBrace)) good (within (sees (is RightBrace)) no_select (λ t. refl) (λ t. refl) refl refl)
-    (excludes (is Comma) (sees (is RightBrace)) (λ t. refl) (λ t. refl) refl))
+    (λ _. then_good _ _ (args_good expr (sees (is RightBrace)) good (within sorts (sees (is RightBrace)) no_select (λ t. refl) (λ t. refl) refl refl)
+    (excludes sorts (is Comma) (sees (is RightBrace)) (λ t. refl) (λ t. refl) refl))
     (λ parts. then_good _ _ (mark_good RightBrace) (λ _. pure_good _ anything) (λ o e. refl))
     (λ o e. e)) (λ o e. refl)
 
 pub expr_over_good : (expr : Rule Lexeme Expr) → Good Lexeme Expr begins_expression no_select expr → Good Lexeme Expr begins_expression no_select (expr_over expr)
 expr_over_good expr good =
-    widened (within (or_else (sees (is LeftBrace)) (or_else (sees (is Name)) (sees (is Sized)))) begins_expression (λ t. refl) (λ t. refl) refl refl) (λ o e. e)
+    widened (within sorts (or_else (sees (is LeftBrace)) (or_else (sees (is Name)) (sees (is Sized)))) begins_expression (λ t. refl) (λ t. refl) refl refl) (λ o e. e)
     (either_good (is LeftBrace) _ _ (widened (λ o e. e) (λ o e. refl) (concatenation_good expr good)) operand_good (λ o e. e)
-    (excludes (is LeftBrace) (or_else (sees (is Name)) (sees (is Sized))) (λ t. refl) (λ t. refl) refl))
+    (excludes sorts (is LeftBrace) (or_else (sees (is Name)) (sees (is Sized))) (λ t. refl) (λ t. refl) refl))
 
 pub within_good : (n : ℕ) → Good Lexeme Expr begins_expression no_select (expr_within n)
-within_good zero = widened (within (or_else (sees (is Name)) (sees (is Sized))) begins_expression (λ t. refl) (λ t. refl) refl refl) (λ o e. e) operand_good
+within_good zero = widened (within sorts (or_else (sees (is Name)) (sees (is Sized))) begins_expression (λ t. refl) (λ t. refl) refl refl) (λ o e. e) operand_good
 within_good (suc n) = expr_over_good (expr_within n) (within_good n)
 
 -- Expressions of any depth
@@ -149,8 +150,8 @@ over_same n one other alike keeps args_keep ts less =
 
 pub args_keep : (n : ℕ) → Keeps (args (expr_within n))
 args_keep n = good_keeps (args (expr_within n))
-    (args_good (expr_within n) (sees (is RightBrace)) (within_good n) (within (sees (is RightBrace)) no_select (λ t. refl) (λ t. refl) refl refl)
-    (excludes (is Comma) (sees (is RightBrace)) (λ t. refl) (λ t. refl) refl))
+    (args_good (expr_within n) (sees (is RightBrace)) (within_good n) (within sorts (sees (is RightBrace)) no_select (λ t. refl) (λ t. refl) refl refl)
+    (excludes sorts (is Comma) (sees (is RightBrace)) (λ t. refl) (λ t. refl) refl))
 
 pub same_reading : (n m : ℕ) (ts : List Lexeme) → length ts ≤ n → length ts ≤ m → (expr_within n).read ts ≡ (expr_within m).read ts
 same_reading zero zero ts a b = refl

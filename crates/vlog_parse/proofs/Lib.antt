@@ -11,6 +11,11 @@ mod DepthLaws
 mod BraceLaws
 mod NestingLaws
 mod LimitLaws
+mod LexemeLaws
+mod ReadLaws
+mod ExpressionFacts
+mod ItemFacts
+mod TreeFacts
 mod ParseLaws
 mod RefusalLaws
 mod PartLaws

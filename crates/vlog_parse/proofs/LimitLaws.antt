@@ -87,7 +87,7 @@ stays k i t few none = by_open (is LeftBrace t) refl where
 open_more : (before : List Lexeme) (t : Lexeme) → open_braces 0 (before ++ t ∷ []) ≡ open_behind (open_braces 0 before) t
 open_more before t = open_braces-append 0 before (t ∷ [])
 
-index_more : (before : List Lexeme) (t : Lexeme) → index_next false (before ++ t ∷ []) ≡ opens_index t
+pub index_more : (before : List Lexeme) (t : Lexeme) → index_next false (before ++ t ∷ []) ≡ opens_index t
 index_more before t = index_next-append false before (t ∷ [])
 
 -- behind each front at most 32 braces are open

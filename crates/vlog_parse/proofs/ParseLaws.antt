@@ -6,8 +6,12 @@ use Rattle.grammar.specs.Rule.Outcome.{Took, Stuck}
 use Rattle.grammar.specs.Good.{IsRefusedAt}
 use Rattle.grammar.specs.Outcomes.{continued, took_rest, not_both_ways}
 use Rattle.grammar.specs.ListLaws.{stands_for, refused}
+use Rattle.vlog_lex.specs.declared.token.NetStop.{NetStop}
+use Rattle.vlog_lex.specs.declared.token.NetStop.TheVariants.{Refused, NoMemory}
 use Rattle.vlog_lex.specs.declared.token.Token.{Token}
-use Rattle.vlog_lex.specs.Cutting.{IsReading, too_long, cut as cut_into, IsWithin, settled, place_behind}
+use Rattle.vlog_lex.specs.declared.token.TokenKind.{TokenKind}
+use Rattle.vlog_lex.specs.declared.token.TokenKind.TheVariants.{Ident, Escaped, Number as NumberKind, Sized as SizedKind, Text as TextKind, Mark, Outside as OutsideKind}
+use Rattle.vlog_lex.specs.Cutting.{IsReading, too_long, cut as cut_into, IsWithin, settled, place_behind, StopsFor}
 use Rattle.vlog_lex.proofs.TokenLaws.{tokens_within}
 use Rattle.vlog_parse.specs.declared.limits.Excess.{Excess}
 use Rattle.vlog_parse.specs.declared.stop.Stop.{Stop}
@@ -15,16 +19,17 @@ use Rattle.vlog_parse.specs.declared.stop.Stop.TheVariants.{Syntax as SyntaxStop
 use Rattle.vlog_parse.specs.Giving.{Gives}
 use Rattle.vlog_parse.specs.declared.tree.Module.{Module}
 use Rattle.vlog_parse.specs.declared.tree.Tree.{Tree}
-use Rattle.vlog_parse.specs.declared.sort.Sort.TheVariants.{Module as ModuleWord}
+use Rattle.vlog_parse.specs.declared.sort.Sort.TheVariants.{Module as ModuleWord, Outside}
 use Rattle.ila_base.specs.declared.place.Place.{Place}
 use Rattle.ila_base.specs.declared.refusal.NetRefusal.TheVariants.{Construct, Syntax, Limit}
-use Rattle.vlog_parse.specs.Lexemes.{Lexeme, lexemes, AreWithin, bytes_of}
+use Rattle.vlog_parse.specs.Lexemes.{Lexeme, lexemes, AreWithin, bytes_of, sort_of}
 use Rattle.vlog_parse.specs.Items.{place_of}
 use Rattle.vlog_parse.specs.Expressions.{is}
 use Rattle.vlog_parse.specs.Design.{module_over, design_over, design, IsDesign}
 use Rattle.vlog_parse.specs.Skipping.{cut}
-use Rattle.vlog_parse.specs.Limits.{IsWithinLimits, first_excess}
-use Rattle.vlog_parse.specs.Parsing.{is_outside, construct_name, place_of_rest, HasNoOutside, IsConstructFault, IsSyntaxFault, IsLimitFault, IsReadAs}
+use Rattle.vlog_parse.specs.Limits.{IsWithinLimits, first_excess, AreClean}
+use Rattle.vlog_parse.specs.Sorts.{same}
+use Rattle.vlog_parse.specs.Parsing.{is_outside, construct_name, place_of_rest, HasNoOutside, IsConstructFault, IsSyntaxFault, IsLimitFault, IsRefusal, construct, IsReadAs}
 use Rattle.vlog_parse.proofs.DesignLaws.{design_over_good}
 use Rattle.vlog_parse.proofs.PartLaws.{good_cut}
 use Rattle.vlog_parse.proofs.DepthLaws.{cut_is_design, design_is_cut}
@@ -42,6 +47,20 @@ reading_within text tokens (too_long long none fault) = absurd cc
 reading_within text tokens (cut_into pieces short cuts is_settled) =
     let P : List Token → Type 0 = λ us. AreWithin (length text) us in
     subst P (sym is_settled) (are_within (length text) (settled pieces) (tokens_within text pieces None cuts))
+
+-- tokens that are clean stand each for a construct of the profile
+clean_kind : (kind : TokenKind) (bytes : List ℕ) → same Outside (sort_of kind bytes) ≡ false → is_outside kind ≡ false
+clean_kind Ident bytes clean = refl
+clean_kind Escaped bytes clean = refl
+clean_kind (NumberKind n) bytes clean = refl
+clean_kind (SizedKind w) bytes clean = refl
+clean_kind TextKind bytes clean = refl
+clean_kind (Mark m) bytes clean = refl
+clean_kind OutsideKind bytes clean = absurd cc
+
+pub clean_profile : (text : List ℕ) (tokens : List Token) → AreClean (lexemes text tokens) → HasNoOutside tokens
+clean_profile text [] clean = tt
+clean_profile text (token ∷ tokens) (one, more) = (clean_kind token.kind (bytes_of text token) one, clean_profile text tokens more)
 
 -- The design
 
@@ -149,3 +168,7 @@ pub read_as : (text : List ℕ) (tokens : List Token) (tree : Tree) → HasNoOut
 read_as text tokens tree profile w e =
     let within : IsWithinLimits [] (lexemes text tokens) = no_excess (lexemes text tokens) e in
     record { profile = profile; design = tree_of text tokens tree w within; limits = within }
+
+pub stops_for_construct : (text : List ℕ) (tokens : List Token) (stop : NetStop) → StopsFor (IsConstructFault text tokens) stop → StopsFor (IsRefusal text tokens) stop
+stops_for_construct text tokens (Refused fault) found = construct found
+stops_for_construct text tokens NoMemory found = tt

@@ -15,8 +15,9 @@ use Rattle.vlog_parse.specs.Skipping.{skipped, closing, wanting, left}
 use Rattle.vlog_parse.proofs.ExpressionLaws.{operand_good, within_good, expr_good, over_same, args_keep, same_reading}
 use Rattle.grammar.specs.Good.{Excludes, sees}
 use Rattle.vlog_parse.specs.declared.sort.Sort.{Sort}
-use Rattle.vlog_parse.proofs.SortLaws.{excludes}
-use Rattle.vlog_parse.proofs.LoopLaws.{separated_shrinks}
+use Rattle.grammar.specs.SortLaws.{excludes}
+use Rattle.vlog_parse.proofs.SortLaws.{sorts}
+use Rattle.grammar.specs.LoopLaws.{separated_shrinks}
 
 -- an expression of any depth is one whose parts are of any depth
 pub expr_unrolls : (ts : List Lexeme) → expr.read ts ≡ (expr_over expr).read ts
@@ -68,7 +69,7 @@ not_comma : (ts : List Lexeme) → looks (is RightBrace) ts ≡ true → looks (
 not_comma [] test = refl
 not_comma (t ∷ ts) test = apart t test where
   apart : Excludes (is RightBrace) (sees (is Comma))
-  apart = excludes (is RightBrace) (sees (is Comma)) (λ u. refl) (λ u. refl) refl
+  apart = excludes sorts (is RightBrace) (sees (is Comma)) (λ u. refl) (λ u. refl) refl
 
 -- a `}` behind an expression
 pub reads_close : (k : ℕ) (ts : List Lexeme) → looks (is RightBrace) ts ≡ true → (closing (suc k)).read ts ≡ goes ((mark RightBrace).read ts) (closing k).read

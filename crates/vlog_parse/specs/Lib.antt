@@ -9,4 +9,5 @@ pub mod Skipping
 pub mod Limits
 pub mod Parsing
 pub mod Leaves
+pub mod LeafLaws
 pub mod ReadTree

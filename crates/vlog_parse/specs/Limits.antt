@@ -3,7 +3,7 @@ use Rattle.std.specs.Prelude.{◌≡◌, ℕ, ◌+◌, ◌-◌, Bool, false, ◌
 use Rattle.ila_base.specs.declared.refusal.LimitKind.TheVariants.{Nesting, Index}
 use Rattle.vlog_parse.specs.declared.limits.Excess.{Excess}
 use Rattle.vlog_parse.specs.declared.limits.Seen.{Seen}
-use Rattle.vlog_parse.specs.declared.sort.Sort.TheVariants.{LeftBrace, RightBrace, LeftBracket, Colon, Number}
+use Rattle.vlog_parse.specs.declared.sort.Sort.TheVariants.{LeftBrace, RightBrace, LeftBracket, Colon, Number, Outside}
 use Rattle.vlog_parse.specs.Lexemes.{Lexeme}
 use Rattle.vlog_parse.specs.Expressions.{is}
 
@@ -53,3 +53,8 @@ or_later (Some found) later = Some found
 abbrev pub first_excess : ℕ → Bool → List Lexeme → Option Excess
 first_excess braces index [] = None
 first_excess braces index (t ∷ ts) = or_later (excess_of braces index t) (first_excess (open_behind braces t) (opens_index t) ts)
+
+-- each token stands for a construct of the profile
+abbrev pub AreClean : List Lexeme → Type 0
+AreClean [] = Unit {0}
+AreClean (t ∷ ts) = (is Outside t ≡ false) × AreClean ts

@@ -1,9 +1,11 @@
-ghost use Rattle.std.specs.Prelude.{◌≡◌, ℕ, List};
+ghost use Rattle.std.specs.Prelude.{◌≡◌, ℕ, List, None};
 ghost use Rattle.vlog_lex.specs.declared.token.NetFault.{NetFault as FaultOf};
 ghost use Rattle.vlog_lex.specs.declared.token.Token.{Token as TokenOf};
+ghost use Rattle.vlog_lex.specs.Cutting.{IsReading};
 ghost use Rattle.vlog_parse.specs.declared.tree.Tree.{Tree as TreeOf};
 ghost use Rattle.vlog_parse.specs.Design.{IsDesign};
 ghost use Rattle.vlog_parse.specs.Parsing.{IsReadAs, IsRefusal};
+ghost use Rattle.vlog_parse.specs.ReadTree.{IsReadTree};
 
 /// The tokens of a text stand for at most one tree.
 pub fn one_tree()
@@ -15,4 +17,10 @@ pub fn one_tree()
 pub fn one_refusal()
     ensures one { (text : List ℕ) (tokens : List TokenOf) (fault other : FaultOf) → IsRefusal text tokens fault → IsRefusal text tokens other → fault ≡ other }
     ensures none { (text : List ℕ) (tokens : List TokenOf) (tree : TreeOf) (fault : FaultOf) → IsReadAs text tokens tree → IsRefusal text tokens fault → ⊥ }
+{}
+
+/// What a text is read as has names that are spelled, constants that have their bits, indices within
+/// their limit, and of nothing more than a text has bytes.
+pub fn read_trees()
+    ensures { (text : List ℕ) (tokens : List TokenOf) (tree : TreeOf) → IsReading text tokens None → IsReadAs text tokens tree → IsReadTree tree }
 {}

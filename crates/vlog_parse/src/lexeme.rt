@@ -1,54 +1,43 @@
-ghost use Rattle.std.specs.Prelude.{◌≡◌, length, ◌<◌};
+ghost use Rattle.std.specs.Prelude.{◌≡◌, length, ◌<◌, if◌then◌else◌};
+ghost use Rattle.std.specs.Str.{bytes_eq};
+ghost use Rattle.vlog_parse.specs.declared.sort.Sort.TheVariants.{Name};
 ghost use Rattle.vlog_lex.specs.Cutting.{IsWithin};
-ghost use Rattle.vlog_parse.specs.Lexemes.{gate_sort, word_sort, mark_sort, sort_of, name_of, bytes_of, number_of, word_of};
+ghost use Rattle.vlog_parse.specs.Lexemes.{word_sort, mark_sort, sort_of, name_of, bytes_of, number_of, word_of};
 
 use crate::sort::Sort;
 use ila_base::Word;
 use vlog_lex::{Token, TokenKind};
 
-/// The keyword of a gate that an identifier is, or a name.
-fn gate_sort(word: &[u8]) -> Sort
-    ensures { result ≡ gate_sort word.now }
+/// The sort, where the word is its keyword, or a name.
+fn sort_if(word: &[u8], keyword: &[u8], sort: Sort) -> Sort
+    ensures { result ≡ (if bytes_eq word.now keyword.now then sort else Name) }
 {
-    if word == b"and".as_slice() {
-        Sort::And
-    } else if word == b"nand".as_slice() {
-        Sort::Nand
-    } else if word == b"or".as_slice() {
-        Sort::Or
-    } else if word == b"nor".as_slice() {
-        Sort::Nor
-    } else if word == b"xor".as_slice() {
-        Sort::Xor
-    } else if word == b"xnor".as_slice() {
-        Sort::Xnor
-    } else if word == b"buf".as_slice() {
-        Sort::Buf
-    } else if word == b"not".as_slice() {
-        Sort::Not
-    } else {
-        Sort::Name
+    if word == keyword {
+        return sort;
     }
+    Sort::Name
 }
 
-/// The keyword that an identifier is, or a name.
+/// The keyword that an identifier is, or a name. Its first byte leaves few.
 fn word_sort(word: &[u8]) -> Sort
     ensures { result ≡ word_sort word.now }
 {
-    if word == b"module".as_slice() {
-        Sort::Module
-    } else if word == b"endmodule".as_slice() {
-        Sort::EndModule
-    } else if word == b"input".as_slice() {
-        Sort::Input
-    } else if word == b"output".as_slice() {
-        Sort::Output
-    } else if word == b"wire".as_slice() {
-        Sort::Wire
-    } else if word == b"assign".as_slice() {
-        Sort::Assign
-    } else {
-        gate_sort(word)
+    match word {
+        [b'a', b's', ..] => sort_if(word, b"assign", Sort::Assign),
+        [b'a', ..] => sort_if(word, b"and", Sort::And),
+        [b'b', ..] => sort_if(word, b"buf", Sort::Buf),
+        [b'e', ..] => sort_if(word, b"endmodule", Sort::EndModule),
+        [b'i', ..] => sort_if(word, b"input", Sort::Input),
+        [b'm', ..] => sort_if(word, b"module", Sort::Module),
+        [b'n', b'a', ..] => sort_if(word, b"nand", Sort::Nand),
+        [b'n', b'o', b'r', ..] => sort_if(word, b"nor", Sort::Nor),
+        [b'n', ..] => sort_if(word, b"not", Sort::Not),
+        [b'o', b'r', ..] => sort_if(word, b"or", Sort::Or),
+        [b'o', ..] => sort_if(word, b"output", Sort::Output),
+        [b'w', ..] => sort_if(word, b"wire", Sort::Wire),
+        [b'x', b'n', ..] => sort_if(word, b"xnor", Sort::Xnor),
+        [b'x', ..] => sort_if(word, b"xor", Sort::Xor),
+        _ => Sort::Name,
     }
 }
 

@@ -25,6 +25,6 @@ mod stop;
 mod tests;
 mod tree;
 
-pub use laws::{one_refusal, one_tree};
+pub use laws::{one_refusal, one_tree, read_trees};
 pub use source::parse;
 pub use tree::{Conns, Decl, Dir, Expr, Gate, GateKind, Inst, Item, Module, Range, Tree, Value};

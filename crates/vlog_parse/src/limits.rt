@@ -1,6 +1,8 @@
-ghost use Rattle.std.specs.Prelude.{◌≡◌, ◌≤◌, false, Some, None, MatchResult};
+ghost use Rattle.std.specs.Prelude.{◌≡◌, ◌≤◌, true, false, Some, None, MatchResult};
+ghost use Rattle.vlog_parse.specs.declared.sort.Sort.TheVariants.{Outside};
+ghost use Rattle.vlog_parse.specs.Sorts.{same};
 ghost use Rattle.vlog_parse.specs.Lexemes.{Lexeme};
-ghost use Rattle.vlog_parse.specs.Limits.{open_behind, opens_index, excess_of, seen_of, first_excess};
+ghost use Rattle.vlog_parse.specs.Limits.{open_behind, opens_index, excess_of, seen_of, first_excess, AreClean};
 
 use crate::parser::Parser;
 use crate::sort::Sort;
@@ -79,22 +81,53 @@ impl Counts {
     }
 }
 
+/// What a scan of the tokens finds.
+#[derive(Clone, Copy, Debug)]
+pub struct Scan {
+    /// Whether all tokens were seen, and each stands for a construct of the profile.
+    pub clean: bool,
+    /// The first limit that is passed.
+    pub excess: Option<Excess>,
+}
+
+/// Whether one more token leaves those that were seen clean.
+fn stays_clean(clean: bool, sort: Sort) -> bool
+    ensures { result ≡ true → (clean ≡ true) × (same Outside sort ≡ false) }
+{
+    if sort.is(Sort::Outside) {
+        return false;
+    }
+    clean
+}
+
 impl<'a> Parser<'a> {
     /// The first limit that the tokens pass, if one does: 33 braces are open at once, or an index is
-    /// above 1,048,575. It takes the tokens to there.
-    pub fn excess(&mut self) -> Option<Excess>
-        ensures { result ≡ first_excess 0 false self.old }
+    /// above 1,048,575. It takes the tokens to there, and where it takes them all, it also tells
+    /// whether each stands for a construct of the profile.
+    pub fn scan(&mut self) -> Scan
+        ensures excess { result.excess ≡ first_excess 0 false self.old }
+        ensures clean { result.clean ≡ true → AreClean self.old }
     {
         let mut counts = Counts {
             braces: 0,
             index: false,
         };
+        let mut clean = true;
         'tokens: while let Some(seen) = self.take() {
+            clean = stays_clean(clean, seen.sort);
             match counts.behind(seen) {
                 Ok(next) => counts = next,
-                Err(excess) => return Some(excess),
+                Err(excess) => {
+                    return Scan {
+                        clean: false,
+                        excess: Some(excess),
+                    };
+                }
             }
         }
-        None
+        Scan {
+            clean,
+            excess: None,
+        }
     }
 }

@@ -1,14 +1,16 @@
-ghost use Rattle.std.specs.Prelude.{◌≡◌, ◌≤◌, None, length, IfOk, IfErr, OnOk};
+ghost use Rattle.std.specs.Prelude.{◌≡◌, ◌≤◌, true, List, None, length, IfOk, IfErr, OnOk};
 ghost use Rattle.std.specs.Option.{option_map};
 ghost use Rattle.std.specs.List.{find};
 ghost use Rattle.grammar.specs.Rule.{first};
+ghost use Rattle.grammar.specs.Rule.Outcome.{Stuck};
 ghost use Rattle.vlog_lex.specs.Cutting.{IsReading, StopsFor, IsWithin, place_behind};
-ghost use Rattle.vlog_parse.specs.Lexemes.{lexemes, AreWithin, bytes_of};
+ghost use Rattle.vlog_parse.specs.Lexemes.{Lexeme, lexemes, AreWithin, bytes_of};
 ghost use Rattle.vlog_parse.specs.Items.{place_of};
 ghost use Rattle.vlog_parse.specs.Design.{design_over};
 ghost use Rattle.vlog_parse.specs.Skipping.{cut};
 ghost use Rattle.vlog_parse.specs.Limits.{first_excess};
-ghost use Rattle.vlog_parse.specs.Parsing.{is_outside, construct_name, place_of_rest, HasNoOutside, IsConstructFault, IsSyntaxFault, IsRefusal, IsReadAs};
+ghost use Rattle.vlog_parse.specs.Parsing.{is_outside, construct_name, place_of_rest, HasNoOutside, IsConstructFault, IsRefusal, IsReadAs};
+ghost use Rattle.vlog_parse.specs.ReadTree.{IsReadTree};
 
 use crate::lexeme::bytes_of;
 use crate::limits::Excess;
@@ -77,23 +79,54 @@ fn place_or_end(text: &[u8], next: Option<Place>) -> Place
     }
 }
 
+/// Refuses tokens among which one stands for no construct of the profile, where that isn't known yet.
+fn check_unless_clean(
+    alloc: Global,
+    text: &[u8],
+    tokens: &[Token],
+    clean: bool,
+) -> Result<(), NetStop>
+    requires within { AreWithin (length text.now) tokens.now }
+    requires clean { clean ≡ true → HasNoOutside tokens.now }
+    ensures ok { OnOk result (HasNoOutside tokens.now) }
+    ensures err { IfErr result (StopsFor (IsConstructFault text.now tokens.now)) }
+{
+    if clean {
+        return Ok(());
+    }
+    check_profile(alloc, text, tokens)
+}
+
+/// Why the tokens are refused, which are those of no design from a place on.
+fn refused_at(alloc: Global, text: &[u8], tokens: &[Token], place: Place) -> NetStop
+    requires { AreWithin (length text.now) tokens.now }
+    ensures { (rest : List Lexeme) → (design_over cut).read (lexemes text.now tokens.now) ≡ Stuck rest → place ≡ place_of_rest text.now rest → StopsFor (IsRefusal text.now tokens.now) result }
+{
+    match check_profile(alloc, text, tokens) {
+        Err(stop) => stop,
+        Ok(()) => NetStop::Refused(NetFault {
+            refusal: NetRefusal::Syntax,
+            place,
+        }),
+    }
+}
+
 /// The tree of the design that the tokens are, with its concatenations kept as deep as they may be,
-/// or the place at which they are those of none.
+/// or why they are refused that are those of none.
 fn read_design(alloc: Global, text: &[u8], tokens: &[Token]) -> Result<Tree, NetStop>
     requires within { AreWithin (length text.now) tokens.now }
     requires short { length text.now ≤ 67108864 }
-    requires profile { HasNoOutside tokens.now }
     ensures ok { IfOk result (λ tree. (design_over cut).words (lexemes text.now tokens.now) tree) }
-    ensures err { IfErr result (StopsFor (IsSyntaxFault text.now tokens.now)) }
+    ensures err { IfErr result (StopsFor (IsRefusal text.now tokens.now)) }
 {
     let mut parser = Parser::new(text, tokens);
     match parser.design(alloc) {
         Ok(tree) => Ok(tree),
         Err(Stop::NoMemory) => Err(NetStop::NoMemory),
-        Err(Stop::Syntax) => Err(NetStop::Refused(NetFault {
-            refusal: NetRefusal::Syntax,
-            place: place_or_end(text, parser.place()),
-        })),
+        Err(Stop::Syntax) => {
+            let place = place_or_end(text, parser.place());
+            Err(refused_at(alloc, text, tokens, place))
+        }
     }
 }
 
@@ -108,12 +141,16 @@ pub fn parse(alloc: Global, text: &[u8], tokens: &[Token]) -> Result<Tree, NetSt
     requires { IsReading text.now tokens.now None }
     // The tokens are those of one design, whose tree this is (`one_tree`).
     ensures found { IfOk result (IsReadAs text.now tokens.now) }
+    // Its names are spelled, its constants have their bits, its indices are within their limit, and
+    // it has no more of anything than a text has bytes.
+    ensures read { IfOk result IsReadTree }
     // They are refused for the first cause alone.
     ensures refused { IfErr result (StopsFor (IsRefusal text.now tokens.now)) }
 {
-    check_profile(alloc, text, tokens)?;
     let tree = read_design(alloc, text, tokens)?;
-    match Parser::new(text, tokens).excess() {
+    let scan = Parser::new(text, tokens).scan();
+    check_unless_clean(alloc, text, tokens, scan.clean)?;
+    match scan.excess {
         Some(excess) => Err(NetStop::Refused(NetFault {
             refusal: NetRefusal::Limit(excess.kind, excess.count),
             place: excess.place,

@@ -1,16 +1,16 @@
 use Rattle.std.proofs.Common.{◌≡◌, ◌↔◌, ℕ, List, Bool, true, map, filter, IsTrue, ap, sym, ◌∙◌, subst}
 use Rattle.net_core.specs.declared.parts.Cell.{Cell}
-use Rattle.net_core.specs.Netlist.{Parts, net_count}
+use Rattle.net_core.specs.Netlist.{net_count, parts_of}
 use Rattle.net_core.specs.WellFormed.{IsWellFormed, Each, HasRange}
 use Rattle.flat_settle.specs.declared.judge.Kept.{Kept}
 use Rattle.flat_settle.specs.declared.raw.RawCell.{RawCell}
 use Rattle.flat_settle.specs.Raw.{flat_cell}
 use Rattle.flat_settle.specs.Driven.{IsDriven, IsClocked, Leaves}
-use Rattle.flat_settle.specs.Refusals.{HasConstantClock, HasNoFault, IsFirstClock}
+use Rattle.flat_settle.specs.Refusals.{HasConstantClock, HasNoFault, Settles}
 use Rattle.flat_settle.specs.Judged.{HasMarks, IsJudgedFault, IsJudgedSound, IsFirstClockOf, clocked_parts}
 use Rattle.flat_settle.specs.Tables.{is_marked, stays}
 use Rattle.flat_settle.proofs.KeepLemmas.{leaves}
-use Rattle.flat_settle.proofs.FormedLemmas.{has_marks, fault_in, sound_in, formed}
+use Rattle.flat_settle.proofs.FormedLemmas.{has_marks, fault_in, sound_in, formed, settles}
 use Rattle.flat_settle.proofs.settled.settle_distinct.Goals as goal
 use Rattle.flat_settle.proofs.settled.settle_distinct.Goals.{After-as_slice-5}
 
@@ -69,16 +69,12 @@ pub returns-in-Ok-clause-settled : goal.returns-in-Ok-clause-settled
 unfolding left kept_left
 returns-in-Ok-clause-settled c =
     let before = (goal.at.returns-in-Ok-clause-settled c).After-as_slice-5 in
-    let parts = c.in_ok-build-in-Ok.ensures.0 in
-    let cells : c.in_ok-build-in-Ok.field-0.cells ≡ left before = ap (λ (parts : Parts). parts.cells) parts ∙ ap (λ (kept : Kept). kept.cells) (kept_is before) in
-    record {
-      groups = ap (λ (parts : Parts). parts.groups) parts ∙ ap (λ (kept : Kept). kept.groups) (kept_is before);
-      ports = ap (λ (parts : Parts). parts.ports) parts ∙ ap (λ (kept : Kept). kept.ports) (kept_is before);
-      cells = subst (λ (cells : List Cell). Leaves c.args.raw c.args.raw.cells cells) (sym cells) (leaves_left before);
-      clock = subst (λ (cells : List Cell). IsFirstClock c.args.raw cells c.in_ok-build-in-Ok.field-0.clock) (sym cells)
-          (subst (λ (kept : Kept). IsFirstClockOf kept c.in_ok-build-in-Ok.field-0.clock) (kept_is before) c.in_ok-build-in-Ok.ensures.1);
-      sound = subst (λ (cells : List Cell). HasNoFault c.args.raw cells) (sym cells) (sound_left before c.in-Ok.ensures.sound);
-    }
+    let first = c.in_ok-build-in-Ok.field-0.clock in
+    let parts : parts_of c.in_ok-build-in-Ok.field-0 ≡ clocked_parts (kept_left before) first = c.in_ok-build-in-Ok.ensures.0 ∙ ap (λ (kept : Kept). clocked_parts kept first) (kept_is before) in
+    subst (Settles c.args.raw) (sym parts)
+    (settles c.args.raw c.requires.unfolded c.requires.distinct (left before) (leaves_left before) c.as_slice-4.result.now c.as_slice-5.result.now c.has_constant_clock-constant.result
+    (drive before c.as_slice-4.result.now c.as_slice-4.ensures.value) (clock before c.as_slice-5.result.now c.as_slice-5.ensures.value) (constants before)
+    (sound_left before c.in-Ok.ensures.sound) first (subst (λ (kept : Kept). IsFirstClockOf kept first) (kept_is before) c.in_ok-build-in-Ok.ensures.1))
 
 pub returns-clause-refused : goal.returns-clause-refused
 unfolding left kept_left

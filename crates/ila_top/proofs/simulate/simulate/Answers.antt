@@ -1,9 +1,73 @@
-use Rattle.ila_top.proofs.Gains.{gains_then, gains_written}
-use Rattle.ila_top.proofs.Simulation.{leaves_run}
+use Rattle.std.proofs.Common.{List, Err, inr, refl, ap, subst}
+use Rattle.std.proofs.KnownBytes.{Keeps-refl}
+use Rattle.stim_read.specs.declared.inputs.DataInput.{DataInput}
+use Rattle.stim_read.specs.Ports as ports
+use Rattle.ila_top.specs.Answers.{Streams}
+use Rattle.ila_top.specs.Rows.{BeginsIfTold, HasRowsIfTold, RefusesIfTold}
+use Rattle.ila_top.proofs.Taken.{rows_begin, rows_all, rows_refused, only_behind, behind_header, answer_refused, answer_begin, rose_since}
 use Rattle.ila_top.proofs.simulate.simulate.Goals as goal
 
-pub returns-clause-leaves : goal.returns-clause-leaves
-returns-clause-leaves g c =
-    leaves_run (g.K.Sink.written c.args.trace.now) (g.K.Sink.written c.run.new.trace) (g.S.Source.faults c.begin.new.stimulus) (g.S.Source.faults c.run.new.stimulus)
-    (g.K.Sink.faults c.write_all.new.sink) (g.K.Sink.faults c.run.new.trace) c.run.result
-    (gains_then _ _ _ (gains_written _ _ c.write_all.result _ c.write_all.ensures.bytes) c.run.ensures.gained) c.run.ensures.answers
+pub returns-in-Err-clause-answers : goal.returns-in-Err-clause-answers
+returns-in-Err-clause-answers g c = λ d top checked is_top own.
+    let same = c.inputs_agree.ensures d c.args.flat.now top checked c.requires.flat own is_top in
+    answer_begin d top _ _ (ports.data_inputs c.args.flat.now) c.in-Err.status same (Keeps-refl (g.K.Sink.written c.args.trace.now)) c.in-Err.ensures.cause
+
+pub returns-in-Ok-show-clause-answers : goal.returns-in-Ok-show-clause-answers
+returns-in-Ok-show-clause-answers g c = λ d top checked is_top own.
+    let same = c.inputs_agree.ensures d c.args.flat.now top checked c.requires.flat own is_top in
+    let done = c.in-Ok-show.ensures.done c.in-Ok-show.field-0 refl in
+    let told : HasRowsIfTold (ports.data_inputs c.args.flat.now) (g.S.Source.left c.args.stimulus.now) done.0 =
+    rows_all (ports.data_inputs c.args.flat.now) (g.S.Source.left c.begin.new.stimulus) c.in-Ok-begin.stim done.0 (g.S.Source.left c.args.stimulus.now)
+    _ _ c.in-Ok-begin.ensures.begun done.3.taken done.2 in
+    let I : List DataInput → Type 0 = λ inputs. HasRowsIfTold inputs (g.S.Source.left c.args.stimulus.now) done.0 in (
+      done.0,
+      subst I same told,
+      c.shows_design.ensures.whole d c.args.flat.now checked c.requires.flat own done.0 done.3.stands.history done.3.stands.one _ _ done.4,
+      c.in-Ok-show.ensures.drained refl c.in-Ok-begin.ensures.drained,
+    )
+
+pub returns-in-Err-Stimulus-clause-answers : goal.returns-in-Err-Stimulus-clause-answers
+returns-in-Err-Stimulus-clause-answers g c = λ d top checked is_top own.
+    let same = c.inputs_agree.ensures d c.args.flat.now top checked c.requires.flat own is_top in
+    let refused = c.in-Err-Stimulus.ensures.refused c.in-Err-Stimulus.why (ap Err c.in-Err-Stimulus.field-0-is) in
+    let behind = only_behind c.in-Ok-begin.stim (g.S.Source.left c.begin.new.stimulus) refused.0 c.in-Err-Stimulus.why c.in-Ok-begin.ensures.begun.refused refused.1 in
+    let told : RefusesIfTold (ports.data_inputs c.args.flat.now) (g.S.Source.left c.args.stimulus.now) refused.0 c.in-Err-Stimulus.why =
+    rows_refused (ports.data_inputs c.args.flat.now) (g.S.Source.left c.begin.new.stimulus) c.in-Ok-begin.stim refused.0 (g.S.Source.left c.args.stimulus.now)
+    c.in-Err-Stimulus.why c.in-Ok-begin.ensures.begun behind in
+    let I : List DataInput → Type 0 = λ inputs. RefusesIfTold inputs (g.S.Source.left c.args.stimulus.now) refused.0 c.in-Err-Stimulus.why in
+    let before : Streams = record { left = g.S.Source.left c.args.stimulus.now; read_faults = g.S.Source.faults c.args.stimulus.now; written = g.K.Sink.written c.args.trace.now; write_faults = g.K.Sink.faults c.args.trace.now } in
+    let after : Streams = record { left = g.S.Source.left c.show.new.source; read_faults = g.S.Source.faults c.show.new.source; written = g.K.Sink.written c.show.new.trace; write_faults = g.K.Sink.faults c.show.new.trace } in
+    answer_refused d top before after c.in-Err-Stimulus.why (behind_header c.in-Ok-begin.stim (g.S.Source.left c.begin.new.stimulus) refused.0 c.in-Err-Stimulus.why behind) refused.0
+    (subst I same told) (c.shows_design.ensures.whole d c.args.flat.now checked c.requires.flat own refused.0 refused.2.history refused.2.one _ _ refused.3)
+
+pub returns-in-Err-ReadFault-clause-answers : goal.returns-in-Err-ReadFault-clause-answers
+returns-in-Err-ReadFault-clause-answers g c = λ d top checked is_top own.
+    let same = c.inputs_agree.ensures d c.args.flat.now top checked c.requires.flat own is_top in
+    let fault = c.in-Err-ReadFault.ensures.read_fault (ap Err c.in-Err-ReadFault.field-0-is) in
+    let told : BeginsIfTold (ports.data_inputs c.args.flat.now) (g.S.Source.left c.args.stimulus.now) fault.0 =
+    rows_begin (ports.data_inputs c.args.flat.now) (g.S.Source.left c.begin.new.stimulus) c.in-Ok-begin.stim fault.0 (g.S.Source.left c.args.stimulus.now)
+    _ _ c.in-Ok-begin.ensures.begun fault.2.taken in
+    let I : List DataInput → Type 0 = λ inputs. BeginsIfTold inputs (g.S.Source.left c.args.stimulus.now) fault.0 in (
+      rose_since _ _ _ c.begin.ensures.later fault.1,
+      inr (record {
+        rows = fault.0;
+        taken = subst I same told;
+        shown = c.shows_design.ensures.whole d c.args.flat.now checked c.requires.flat own fault.0 fault.2.stands.history fault.2.stands.one _ _ fault.3;
+      }),
+    )
+
+pub returns-in-Err-WriteFault-clause-answers : goal.returns-in-Err-WriteFault-clause-answers
+returns-in-Err-WriteFault-clause-answers g c = λ d top checked is_top own.
+    let same = c.inputs_agree.ensures d c.args.flat.now top checked c.requires.flat own is_top in
+    let fault = c.in-Err-WriteFault.ensures.write_fault (ap Err c.in-Err-WriteFault.field-0-is) in
+    let told : BeginsIfTold (ports.data_inputs c.args.flat.now) (g.S.Source.left c.args.stimulus.now) fault.0 =
+    rows_begin (ports.data_inputs c.args.flat.now) (g.S.Source.left c.begin.new.stimulus) c.in-Ok-begin.stim fault.0 (g.S.Source.left c.args.stimulus.now)
+    _ _ c.in-Ok-begin.ensures.begun fault.2.taken in
+    let I : List DataInput → Type 0 = λ inputs. BeginsIfTold inputs (g.S.Source.left c.args.stimulus.now) fault.0 in (
+      fault.1,
+      (
+        fault.0,
+        subst I same told,
+        c.shows_design.ensures.front d c.args.flat.now checked c.requires.flat own fault.0 fault.2.stands.history fault.2.stands.one _ _ fault.3,
+      ),
+    )

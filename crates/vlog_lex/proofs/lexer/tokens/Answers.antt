@@ -16,16 +16,16 @@ returns-in_err-tokens-clause-refused c =
     rw (p.1, p.2) (reading_stops c.args.text.now c.if-text-gt-LONGEST_TEXT.false _ c.in_err-tokens.ensures.refused)
 
 pub returns-clause-found : goal.returns-clause-found
-returns-clause-found c = cut c.in_ok-tokens.tokens.items c.if-text-gt-LONGEST_TEXT.false c.in_ok-tokens.ensures.found c.settle.ensures
+returns-clause-found c = cut c.in_ok-tokens.ensures.found.0 c.if-text-gt-LONGEST_TEXT.false c.in_ok-tokens.ensures.found.1 c.in_ok-tokens.ensures.found.2
 
 pub returns-clause-within : goal.returns-clause-within
-returns-clause-within c = rw c.settle.ensures (tokens_within c.args.text.now c.in_ok-tokens.tokens.items None c.in_ok-tokens.ensures.found)
+returns-clause-within c = rw c.in_ok-tokens.ensures.found.2 (tokens_within c.args.text.now c.in_ok-tokens.ensures.found.0 None c.in_ok-tokens.ensures.found.1)
 
 pub returns-clause-rise : goal.returns-clause-rise
-returns-clause-rise c = rw c.settle.ensures (tokens_rise c.args.text.now c.in_ok-tokens.tokens.items None c.in_ok-tokens.ensures.found)
+returns-clause-rise c = rw c.in_ok-tokens.ensures.found.2 (tokens_rise c.args.text.now c.in_ok-tokens.ensures.found.0 None c.in_ok-tokens.ensures.found.1)
 
 pub returns-clause-words : goal.returns-clause-words
-returns-clause-words c = rw c.settle.ensures (tokens_words c.args.text.now c.in_ok-tokens.tokens.items None c.in_ok-tokens.ensures.found)
+returns-clause-words c = rw c.in_ok-tokens.ensures.found.2 (tokens_words c.args.text.now c.in_ok-tokens.ensures.found.0 None c.in_ok-tokens.ensures.found.1)
 
 pub returns-clause-whole : goal.returns-clause-whole
-returns-clause-whole c = reading_tokens (cut c.in_ok-tokens.tokens.items c.if-text-gt-LONGEST_TEXT.false c.in_ok-tokens.ensures.found c.settle.ensures)
+returns-clause-whole c = reading_tokens (cut c.in_ok-tokens.ensures.found.0 c.if-text-gt-LONGEST_TEXT.false c.in_ok-tokens.ensures.found.1 c.in_ok-tokens.ensures.found.2)

@@ -4,7 +4,7 @@ use Rattle.grammar.specs.ListLaws.{separated}
 use Rattle.vlog_parse.specs.declared.sort.Sort.TheVariants.{Comma}
 use Rattle.vlog_parse.specs.Expressions.{is, args}
 use Rattle.vlog_parse.specs.Skipping.{cut_within}
-use Rattle.vlog_parse.proofs.LoopLaws.{behind}
+use Rattle.grammar.specs.LoopLaws.{behind}
 use Rattle.vlog_parse.proofs.parser.Parser.+expr.Given as goal
 
 abbrev pub decreases-args : goal.decreases-args

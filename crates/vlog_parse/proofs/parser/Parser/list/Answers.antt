@@ -2,7 +2,7 @@ use Rattle.std.proofs.Common.{sym, ◌∙◌}
 use Rattle.grammar.specs.ListLaws.{separated}
 use Rattle.vlog_parse.specs.Expressions.{is}
 use Rattle.vlog_parse.specs.Readers.{rule_of}
-use Rattle.vlog_parse.proofs.LoopLaws.{part_taken, separated_shrinks}
+use Rattle.grammar.specs.LoopLaws.{part_taken, separated_shrinks}
 use Rattle.vlog_parse.proofs.parser.Parser.list.Goals as goal
 
 pub parts-preserved : goal.parts-preserved

@@ -1,0 +1,3 @@
+mod PickLaws
+mod InputLaws
+mod TextLaws

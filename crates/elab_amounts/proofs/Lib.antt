@@ -1,0 +1,5 @@
+mod CapLaws
+mod CountedLaws
+mod ItemLaws
+mod PortSumLaws
+mod WholeLaws

@@ -1,0 +1,3 @@
+pub mod Amounts
+pub mod Instances
+pub mod Progress

@@ -1,0 +1,13 @@
+pub mod NetLaws
+pub mod PinLaws
+pub mod RangeLaws
+pub mod TableLaws
+pub mod LeafLaws
+pub mod PortLaws
+pub mod DeepLaws
+pub mod ShapeLaws
+pub mod CountLaws
+pub mod DeadLaws
+pub mod SmallLaws
+pub mod PlanLaws
+pub mod RawLaws

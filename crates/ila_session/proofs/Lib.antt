@@ -1,0 +1,6 @@
+mod WordLaws
+mod DataNets
+mod Filling
+mod Running
+mod Taking
+mod Headed

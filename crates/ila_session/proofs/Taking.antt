@@ -1,0 +1,87 @@
+-- The rows that were taken, after each answer of a reader.
+use Rattle.std.proofs.Common.{◌≡◌, ℕ, Bool, true, false, List, [], ◌∷◌, ◌++◌, length, Option, Some, None, Result, Ok, Err, inl, inr, refl, sym, ◌∙◌, ap, subst}
+use Rattle.std.specs.Prelude.{◌⊎◌}
+use Rattle.std.specs.Io.KnownBytes.{Keeps, IsAtEnd}
+use Rattle.ila_base.specs.declared.refusal.StimRefusal.{StimRefusal}
+use Rattle.net_core.specs.Netlist.{Netlist}
+use Rattle.net_core.specs.Run.{StandsFor}
+use Rattle.stim_read.specs.Reading.{Reading, rest, TakesRow, Refuses}
+use Rattle.stim_read.specs.Streams.{rest_of}
+use Rattle.stim_read.specs.RowLaws.{HasTaken, taken_more}
+use Rattle.ila_session.specs.Shown.{TakesRows, RefusesBehind}
+
+-- before the first row
+pub takes_none : (before : Reading) (left : Option (List ℕ)) → TakesRows before left [] before left
+takes_none before left inputs text has = has
+
+-- one row more
+pub takes_more : (before old new : Reading) (left mid later : Option (List ℕ)) (rows : List (List Bool)) (row : List Bool) → row ≡ new.bits → TakesRows before left rows old mid
+    → TakesRow old new (rest old mid) (rest new later) → new.fields ≡ old.fields → length new.bits ≡ length old.bits → TakesRows before left (rows ++ row ∷ []) new later
+takes_more before old new left mid later rows row is taken takes fields size inputs text has =
+    subst (λ (r : List Bool). HasTaken inputs text (rows ++ r ∷ []) new later) (sym is) (taken_more inputs text rows old new mid later (taken inputs text has) takes fields size)
+
+-- the same rows, where the same bytes are to come
+keeps_told : (old now : Option (List ℕ)) (bytes : List ℕ) → Keeps old now → old ≡ Some bytes → now ≡ Some bytes
+keeps_told None now bytes kept told = absurd (cc told)
+keeps_told (Some xs) None bytes kept told = absurd kept
+keeps_told (Some xs) (Some ys) bytes kept told = ap Some kept ∙ told
+
+pub takes_same : (before old new : Reading) (left mid later : Option (List ℕ)) (rows : List (List Bool)) → TakesRows before left rows old mid → Keeps (rest old mid) (rest new later)
+    → new.fields ≡ old.fields → new.bits ≡ old.bits → new.taken ≡ old.taken → TakesRows before left rows new later
+takes_same before old new left mid later rows taken kept fields bits count inputs text has =
+    let now = taken inputs text has in
+    record {
+      order = now.order;
+      header = now.header;
+      body = now.body;
+      bytes = now.bytes;
+      told = keeps_told (rest old mid) (rest new later) now.bytes kept now.told;
+      cut = now.cut;
+      named = now.named;
+      each = now.each;
+      fields = fields ∙ now.fields;
+      size = ap (λ bs. length bs) bits ∙ now.size;
+      taken = count ∙ now.taken;
+    }
+
+-- at the end nothing is to come
+pub ended_rest : (reading : Reading) (later : Option (List ℕ)) → reading.ended ≡ true → reading.unused ≡ [] → rest reading later ≡ Some []
+ended_rest reading later ended unused = ap (λ b. rest_of reading.unused b later) ended ∙ ap Some unused
+
+pub at_end : (reading : Reading) (later : Option (List ℕ)) → reading.ended ≡ true → reading.unused ≡ [] → IsAtEnd (rest reading later)
+at_end reading later ended unused = subst IsAtEnd (sym (ended_rest reading later ended unused)) refl
+
+end_kept : (old now : Option (List ℕ)) → IsAtEnd old → now ≡ Some [] → Keeps old now
+end_kept None now over is = tt
+end_kept (Some xs) None over is = absurd (cc is)
+end_kept (Some xs) (Some ys) over is = let none : ys ≡ [] = cc is in none ∙ sym over
+
+pub takes_end : (before old new : Reading) (left mid later : Option (List ℕ)) (rows : List (List Bool)) → TakesRows before left rows old mid → IsAtEnd (rest old mid)
+    → new.ended ≡ true → new.unused ≡ [] → new.fields ≡ old.fields → new.bits ≡ old.bits → new.taken ≡ old.taken → TakesRows before left rows new later
+takes_end before old new left mid later rows taken over ended unused fields bits count =
+    takes_same before old new left mid later rows taken (end_kept (rest old mid) (rest new later) over (ended_rest new later ended unused)) fields bits count
+
+-- a line is refused behind the rows, unless it was before
+pub refuses_behind : (before old : Reading) (left mid : Option (List ℕ)) (rows : List (List Bool)) (why : StimRefusal) → TakesRows before left rows old mid
+    → (old.refused ≡ Some why → before.refused ≡ Some why) → (old.refused ≡ Some why) ⊎ Refuses old (rest old mid) why → (before.refused ≡ Some why) ⊎ RefusesBehind before left rows why
+refuses_behind before old left mid rows why taken earlier (inl refused) = inl (earlier refused)
+refuses_behind before old left mid rows why taken earlier (inr refuses) = inr (record { reading = old; later = mid; taken = taken; refuses = refuses })
+
+pub none_some : {X : Type 0} (o : Option X) (x : X) → o ≡ None → o ≡ Some x → ⊥
+none_some o x none some = cc
+
+-- a machine over the netlist stands for one row more
+pub stands_on : (net own : Netlist) → own ≡ net → (a b : ℕ → Bool) (c d : ℕ → ℕ → Bool) (row : List Bool)
+    → ((rows : List (List Bool)) → StandsFor own a c rows → StandsFor own b d (rows ++ row ∷ [])) → (rows : List (List Bool)) → StandsFor net a c rows → StandsFor net b d (rows ++ row ∷ [])
+stands_on net own same a b c d row step rows stands =
+    subst (λ n. StandsFor n b d (rows ++ row ∷ [])) same (step rows (subst (λ n. StandsFor n a c rows) (sym same) stands))
+
+-- answers that differ
+pub err_ok : {A E : Type 0} (e : E) (a : A) → ◌≡◌ {A = Result A E} (Err e) (Ok a) → ⊥
+err_ok e a is = cc
+
+pub false_true : {E : Type 0} (b : Bool) → b ≡ false → ◌≡◌ {A = Result Bool E} (Ok b) (Ok true) → ⊥
+false_true b wrong is = cc
+
+pub counts_of : {E : Type 0} (a b : ℕ) → ◌≡◌ {A = Result ℕ E} (Ok a) (Ok b) → b ≡ a
+counts_of a b is = cc

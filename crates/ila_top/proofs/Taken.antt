@@ -1,0 +1,114 @@
+-- The rows that were taken of a stimulus, where it is told, and why the line behind them is refused.
+use Rattle.std.proofs.Common.{◌≡◌, ℕ, ◌≤◌, Bool, List, ◌∷◌, ◌++◌, length, Option, Some, None, ◌⊎◌, refl, sym, ◌∙◌, ap, subst, inl, inr, arith}
+use Rattle.std.specs.Prelude.{sum}
+use Rattle.std.specs.Str.Lines.{lines}
+use Rattle.std.specs.Io.KnownBytes.{Keeps, IsAtEnd}
+use Rattle.ila_base.specs.Faults.{Rose}
+use Rattle.ila_base.specs.declared.refusal.StimRefusal.{StimRefusal}
+use Rattle.ila_base.specs.declared.refusal.StimRefusal.TheVariants.{Header, Line, Limit}
+use Rattle.vlog_parse.specs.declared.tree.Module.{Module}
+use Rattle.stim_read.specs.declared.inputs.DataInput.{DataInput}
+use Rattle.stim_read.specs.declared.inputs.Field.{Field}
+use Rattle.stim_read.specs.Stimulus.{widths_of, fields_of}
+use Rattle.stim_read.specs.Reading.{Reading, rest, Refuses, RefusesLine, IsSomeRow, Begins as HasBegun}
+use Rattle.stim_read.specs.RowLaws.{HasTaken, begun_taken, taken_all}
+use Rattle.elab_design.specs.Design.{Design}
+use Rattle.ila_session.specs.Shown.{TakesRows, RefusesBehind as IsRefusedBehind}
+use Rattle.design_text.specs.DesignText.{design_inputs, ShowsDesign}
+use Rattle.ila_top.specs.declared.status.Status.{Status}
+use Rattle.ila_top.specs.declared.status.Status.TheVariants.{Stimulus, ReadFault, NoMemory}
+use Rattle.ila_top.specs.Rows.{BeginsIfTold, HasRowsIfTold, RefusesIfTold, RefusesBehind}
+use Rattle.ila_top.specs.Answers.{Streams, SimAnswer, BeginAnswer, LeavesTrace}
+
+module _ (inputs : List DataInput) (start : Option (List ℕ)) (reading : Reading) (rows : List (List Bool)) where
+  pub rows_begin : (text : Option (List ℕ)) (after : Reading) (later : Option (List ℕ)) → HasBegun inputs text start reading → TakesRows reading start rows after later
+      → BeginsIfTold inputs text rows
+  rows_begin None after later begun taken = tt
+  rows_begin (Some text) after later begun taken =
+      let has : HasTaken inputs text rows after later = taken inputs text (begun_taken inputs text reading start begun) in
+      (has.order, lines has.bytes, record { header = has.header; taken = has.body; cut = has.cut; named = has.named; each = has.each })
+
+  pub rows_all : (text : Option (List ℕ)) (after : Reading) (later : Option (List ℕ)) → HasBegun inputs text start reading → TakesRows reading start rows after later
+      → IsAtEnd (rest after later) → HasRowsIfTold inputs text rows
+  rows_all None after later begun taken over = tt
+  rows_all (Some text) after later begun taken over = taken_all inputs text rows after later (taken inputs text (begun_taken inputs text reading start begun)) over
+
+  refused_at : (text : List ℕ) (now : Reading) (later : Option (List ℕ)) (why : StimRefusal) → HasTaken inputs text rows now later → Refuses now (rest now later) why
+      → RefusesBehind inputs text rows why
+  refused_at text now later why has refuses =
+      let given = subst (λ left. Refuses now left why) has.told refuses in
+      let F : List Field → Type 0 = λ fs. RefusesLine now.taken (IsSomeRow fs (length now.bits) given.0) why in
+      let S : ℕ → Type 0 = λ n. RefusesLine now.taken (IsSomeRow (fields_of (widths_of inputs) has.order) n given.0) why in
+      let C : ℕ → Type 0 = λ n. RefusesLine n (IsSomeRow (fields_of (widths_of inputs) has.order) (sum (widths_of inputs)) given.0) why in
+      record {
+        order = has.order;
+        line = given.0;
+        more = given.1;
+        begins = record {
+          header = has.header;
+          taken = has.body;
+          cut = has.cut ∙ ap (λ ls. has.header ∷ (has.body ++ ls)) given.2;
+          named = has.named;
+          each = has.each;
+        };
+        refuses = subst C has.taken (subst S has.size (subst F has.fields given.3));
+      }
+
+  pub rows_refused : (text : Option (List ℕ)) (why : StimRefusal) → HasBegun inputs text start reading → IsRefusedBehind reading start rows why → RefusesIfTold inputs text rows why
+  rows_refused None why begun behind = tt
+  rows_refused (Some text) why begun behind =
+      refused_at text behind.reading behind.later why (behind.taken inputs text (begun_taken inputs text reading start begun)) behind.refuses
+
+-- behind a header no line is refused as a header
+no_header : (reading : Reading) (left : Option (List ℕ)) (why : StimRefusal) → Refuses reading left why → why ≡ Header → ⊥
+no_header reading left Header refuses is = none left refuses
+  where
+    none : (left : Option (List ℕ)) → Refuses reading left Header → ⊥
+    none None refuses = refuses
+    none (Some bytes) refuses = refuses.3
+no_header reading left (Line n) refuses is = absurd (cc is)
+no_header reading left (Limit n) refuses is = absurd (cc is)
+
+pub behind_header : (before : Reading) (start : Option (List ℕ)) (rows : List (List Bool)) (why : StimRefusal) → IsRefusedBehind before start rows why → why ≡ Header → ⊥
+behind_header before start rows why behind = no_header behind.reading (rest behind.reading behind.later) why behind.refuses
+
+-- a reader that had refused nothing refuses a line
+pub only_behind : (before : Reading) (start : Option (List ℕ)) (rows : List (List Bool)) (why : StimRefusal) → before.refused ≡ None
+    → ((before.refused ≡ Some why) ⊎ IsRefusedBehind before start rows why) → IsRefusedBehind before start rows why
+only_behind before start rows why none (inl some) = absurd (let e : None ≡ Some why = sym none ∙ some in cc e)
+only_behind before start rows why none (inr behind) = behind
+
+-- a count that rose since a later moment rose since an earlier one
+pub rose_since : (a b c : ℕ) → a ≤ b → Rose b c → Rose a c
+rose_since a b c before rose = omega (arith, before, rose)
+
+-- A line behind a header is refused: what stands then.
+pub answer_refused : (d : Design) (top : Module) (before after : Streams) (why : StimRefusal) → (why ≡ Header → ⊥) → (rows : List (List Bool))
+    → RefusesIfTold (design_inputs top d.clock) before.left rows why → ShowsDesign d rows before.written after.written → SimAnswer d top before after (Stimulus why)
+answer_refused d top before after Header behind rows told shown = absurd (behind refl)
+answer_refused d top before after (Line n) behind rows told shown = (rows, told, shown)
+answer_refused d top before after (Limit n) behind rows told shown = (rows, told, shown)
+
+pub leaves_refused : (old new : Option (List ℕ)) (why : StimRefusal) → (why ≡ Header → ⊥) → LeavesTrace old new (Stimulus why)
+leaves_refused old new Header behind = absurd (behind refl)
+leaves_refused old new (Line n) behind = tt
+leaves_refused old new (Limit n) behind = tt
+
+-- The header isn't read: what stands then, where the trace is as it was.
+pub answer_begin : (d : Design) (top : Module) (before after : Streams) (inputs : List DataInput) (status : Status) → inputs ≡ design_inputs top d.clock
+    → Keeps before.written after.written → BeginAnswer inputs before.left before.read_faults after.read_faults status → SimAnswer d top before after status
+answer_begin d top before after inputs (Stimulus Header) same keeps answer = subst (λ i. BeginAnswer i before.left before.read_faults after.read_faults (Stimulus Header)) same answer
+answer_begin d top before after inputs (Stimulus (Line _)) same keeps answer = absurd answer
+answer_begin d top before after inputs (Stimulus (Limit _)) same keeps answer = absurd answer
+answer_begin d top before after inputs ReadFault same keeps answer = (answer, inl keeps)
+answer_begin d top before after inputs NoMemory same keeps answer = tt
+answer_begin d top before after inputs _ same keeps answer = absurd answer
+
+pub leaves_begin : (old new : Option (List ℕ)) (inputs : List DataInput) (text : Option (List ℕ)) (a b : ℕ) (status : Status) → Keeps old new
+    → BeginAnswer inputs text a b status → LeavesTrace old new status
+leaves_begin old new inputs text a b (Stimulus Header) keeps answer = keeps
+leaves_begin old new inputs text a b (Stimulus (Line _)) keeps answer = tt
+leaves_begin old new inputs text a b (Stimulus (Limit _)) keeps answer = tt
+leaves_begin old new inputs text a b ReadFault keeps answer = tt
+leaves_begin old new inputs text a b NoMemory keeps answer = keeps
+leaves_begin old new inputs text a b _ keeps answer = absurd answer

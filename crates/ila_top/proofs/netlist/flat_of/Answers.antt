@@ -1,0 +1,26 @@
+use Rattle.std.proofs.Common.{ℕ, List, subst}
+use Rattle.std.specs.Prelude.{IfErr}
+use Rattle.std.proofs.lemmas.Result.{err_from_is_err_and}
+use Rattle.vlog_lex.specs.Cutting.{StopsFor}
+use Rattle.vlog_parse.specs.declared.tree.Tree.{Tree}
+use Rattle.elab_design.specs.Limits.{IsElabFault}
+use Rattle.ila_top.proofs.Refused.{check_refused, unfold_refused_by}
+use Rattle.ila_top.proofs.netlist.flat_of.Goals as goal
+
+pub returns-in_err-tree-clause-refused : goal.returns-in_err-tree-clause-refused
+returns-in_err-tree-clause-refused c =
+    let p = err_from_is_err_and c.from_residual.result c.from_residual.ensures.1 in
+    rw (p.1, p.2) (c.in_err-tree.ensures.refused c.args.top.now c.args.clock.now)
+
+pub returns-in_err-design-clause-refused : goal.returns-in_err-design-clause-refused
+returns-in_err-design-clause-refused c =
+    let p = err_from_is_err_and c.from_residual-in_err-design.result c.from_residual-in_err-design.ensures.1 in
+    rw (p.1, p.2) (check_refused c.args.bytes.now c.args.top.now c.args.clock.now c.in_ok-tree.tree _ c.in_ok-tree.ensures.stands c.in_err-design.ensures.refused)
+
+pub returns-clause-refused : goal.returns-clause-refused
+returns-clause-refused c =
+    let found = c.in_ok-design.ensures.found in
+    let T : Tree → Type 0 = λ tree. IfErr c.flatten.result (StopsFor (IsElabFault (record { tree = tree; top = c.in_ok-design.design.top; clock = c.args.clock.now }))) in
+    let N : List ℕ → Type 0 = λ name. IfErr c.flatten.result (StopsFor (IsElabFault (record { tree = c.in_ok-tree.tree; top = name; clock = c.args.clock.now }))) in
+    unfold_refused_by c.args.bytes.now c.args.top.now c.args.clock.now c.in_ok-tree.tree c.flatten.result c.in_ok-tree.ensures.stands found.2
+    (subst N found.1 (subst T found.0 c.flatten.ensures.refused))

@@ -1,0 +1,107 @@
+#!/usr/bin/env python3
+"""Simulates netlists of growing size with the program, and prints a table of times and memory.
+
+usage: measure/simulate.py PROGRAM [LARGEST]
+
+Each netlist is made here: random logic with registers, one chain of gates, a deep hierarchy (each module has one
+instance of the next), and a wide one (one module with many instances). It is simulated over two lengths of stimulus,
+so that the time of a clock is told apart from the time to the first one.
+"""
+import os
+import random
+import sys
+import tempfile
+import time
+
+
+def random_logic(cells):
+    """Half LUTs of three inputs, half registers, each reading nets of any place before it."""
+    draw = random.Random(cells)
+    lines = ["module m (clk, a, y);", "  input clk, a;", "  output y;", f"  wire [{cells}:0] n;", "  buf (n[0], a);"]
+    for k in range(1, cells + 1):
+        if k % 2:
+            ins = [draw.randrange(k) for _ in range(3)]
+            init = draw.randrange(256)
+            lines.append(f"  LUT3 #(.INIT(8'h{init:02x})) l{k} (.I0(n[{ins[0]}]), .I1(n[{ins[1]}]), .I2(n[{ins[2]}]), .O(n[{k}]));")
+        else:
+            lines.append(f"  FDRE r{k} (.C(clk), .CE(1'b1), .D(n[{k - 1}]), .Q(n[{k}]), .R(1'b0));")
+    return "\n".join(lines + [f"  buf (y, n[{cells}]);", "endmodule", ""])
+
+
+def chain(cells):
+    """One chain of gates from the input to the output."""
+    lines = ["module m (clk, a, y);", "  input clk, a;", "  output y;", f"  wire [{cells}:0] n;", "  buf (n[0], a);"]
+    lines += [f"  not (n[{k + 1}], n[{k}]);" for k in range(cells)]
+    return "\n".join(lines + [f"  buf (y, n[{cells}]);", "endmodule", ""])
+
+
+def deep(cells):
+    """200 modules in one another, each with as many gates as it takes."""
+    depth, texts = 200, []
+    each = max(1, cells // depth)
+    for k in range(depth):
+        name = "m" if k == 0 else f"m{k}"
+        lines = [f"module {name} (clk, a, y);", "  input clk, a;", "  output y;", f"  wire [{each}:0] n;", "  buf (n[0], a);"]
+        lines += [f"  not (n[{i + 1}], n[{i}]);" for i in range(each)]
+        if k + 1 < depth:
+            lines.append(f"  m{k + 1} u (.clk(clk), .a(n[{each}]), .y(y));")
+        else:
+            lines.append(f"  buf (y, n[{each}]);")
+        texts.append("\n".join(lines + ["endmodule", ""]))
+    return "".join(texts)
+
+
+def wide(cells):
+    """Many instances of one module of ten cells."""
+    count = max(1, cells // 12)
+    lines = ["module m (clk, a, y);", "  input clk, a;", "  output y;", f"  wire [{count}:0] n;", "  buf (n[0], a);"]
+    lines += [f"  part u{k} (.clk(clk), .a(n[{k}]), .y(n[{k + 1}]));" for k in range(count)]
+    lines += [f"  buf (y, n[{count}]);", "endmodule", "module part (clk, a, y);", "  input clk, a;", "  output y;", "  wire [8:0] n;", "  buf (n[0], a);"]
+    lines += [f"  not (n[{k + 1}], n[{k}]);" for k in range(8)]
+    lines += ["  FDRE r (.C(clk), .CE(1'b1), .D(n[8]), .Q(y), .R(1'b0));", "endmodule", ""]
+    return "\n".join(lines)
+
+
+def run(program, folder, netlist, clocks):
+    """The answer, the seconds and the peak of memory in MB of one run over so many clocks."""
+    with open(os.path.join(folder, "m.v"), "w") as out:
+        out.write(netlist)
+    with open(os.path.join(folder, "stimulus"), "w") as out:
+        out.write("a\n" + "".join(f"{k % 2}\n" for k in range(clocks)))
+    errors = os.path.join(folder, "errors")
+    start = time.monotonic()
+    child = os.fork()
+    if child == 0:
+        os.chdir(folder)
+        os.dup2(os.open("stimulus", os.O_RDONLY), 0)
+        os.dup2(os.open(os.devnull, os.O_WRONLY), 1)
+        os.dup2(os.open(errors, os.O_WRONLY | os.O_CREAT | os.O_TRUNC), 2)
+        os.execv(program, [program, "sim", "m.v", "m", "clk"])
+    _, _, usage = os.wait4(child, 0)
+    seconds = time.monotonic() - start
+    with open(errors) as file:
+        answer = file.read(60).strip()
+    return answer, seconds, usage.ru_maxrss / 1024
+
+
+def main():
+    program = os.path.abspath(sys.argv[1])
+    largest = int(sys.argv[2]) if len(sys.argv) > 2 else 1_000_000
+    print("| Netlist | Cells | Ready, s | Million cells times clocks a second | Peak MB |")
+    print("|---|---|---|---|---|")
+    with tempfile.TemporaryDirectory() as folder:
+        for make in (random_logic, chain, deep, wide):
+            for cells in (1_000, 10_000, 100_000, 125_000, 250_000, 500_000, 1_000_000):
+                if cells > largest:
+                    continue
+                netlist = make(cells)
+                more = 1000 if cells <= 100_000 else 100
+                answer, first, _ = run(program, folder, netlist, 1)
+                _, whole, peak = run(program, folder, netlist, 1 + more)
+                rate = cells * more / max(whole - first, 1e-9) / 1e6
+                told = answer or f"{first:.2f}"
+                print(f"| {make.__name__} | {cells} | {told} | {rate:.1f} | {peak:.0f} |", flush=True)
+
+
+if __name__ == "__main__":
+    main()
