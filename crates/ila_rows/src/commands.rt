@@ -266,7 +266,7 @@ const REFUSED: &[(&[u8], &[u8])] = &[
     ),
     (
         b"module m (); assign a[1048575] = b; endmodule",
-        b"ila: N5 1:21 a\n",
+        b"ila: N5 1:21 a[1048575]\n",
     ),
     // 33 braces are one too many, and the syntax comes first.
     (

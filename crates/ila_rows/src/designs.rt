@@ -58,6 +58,18 @@ const DESIGNS: &[(&[u8], &[u8], &[u8])] = &[
         b"a\n1\n0\n0\n0\n",
         b"y\n0\n0\n1\n0\n",
     ),
+    // Two assigns of each other, of which nothing else is a source, are no cells.
+    (
+        b"module m (clk, a, y); input clk, a; output y; wire p, q; assign p = q; assign q = p; buf (y, a); endmodule",
+        b"a\n1\n0\n",
+        b"y\n1\n0\n",
+    ),
+    // A cell with the name of a vector's bit.
+    (
+        b"module m (clk, a, y); input clk, a; output y; wire [1:0] v; LUT1 #(.INIT(2)) \\v[1] (.I0(a), .O(y)); endmodule",
+        b"a\n1\n0\n",
+        b"y\n1\n0\n",
+    ),
     // Modules without nets and cells that double 40 times.
     (
         b"module m (clk, a, y); input clk, a; output y; not (y, a); m0 u (); endmodule module m0; m1 u (), v (); endmodule module m1; m2 u (), v (); endmodule module m2; m3 u (), v (); endmodule module m3; m4 u (), v (); endmodule module m4; m5 u (), v (); endmodule module m5; m6 u (), v (); endmodule module m6; m7 u (), v (); endmodule module m7; m8 u (), v (); endmodule module m8; m9 u (), v (); endmodule module m9; m10 u (), v (); endmodule module m10; m11 u (), v (); endmodule module m11; m12 u (), v (); endmodule module m12; m13 u (), v (); endmodule module m13; m14 u (), v (); endmodule module m14; m15 u (), v (); endmodule module m15; m16 u (), v (); endmodule module m16; m17 u (), v (); endmodule module m17; m18 u (), v (); endmodule module m18; m19 u (), v (); endmodule module m19; m20 u (), v (); endmodule module m20; m21 u (), v (); endmodule module m21; m22 u (), v (); endmodule module m22; m23 u (), v (); endmodule module m23; m24 u (), v (); endmodule module m24; m25 u (), v (); endmodule module m25; m26 u (), v (); endmodule module m26; m27 u (), v (); endmodule module m27; m28 u (), v (); endmodule module m28; m29 u (), v (); endmodule module m29; m30 u (), v (); endmodule module m30; m31 u (), v (); endmodule module m31; m32 u (), v (); endmodule module m32; m33 u (), v (); endmodule module m33; m34 u (), v (); endmodule module m34; m35 u (), v (); endmodule module m35; m36 u (), v (); endmodule module m36; m37 u (), v (); endmodule module m37; m38 u (), v (); endmodule module m38; m39 u (), v (); endmodule module m39; m40 u (), v (); endmodule module m40;  endmodule",
