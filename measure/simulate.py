@@ -53,7 +53,7 @@ def deep(cells):
 
 def wide(cells):
     """Many instances of one module of ten cells."""
-    count = max(1, cells // 12)
+    count = max(1, cells // 13)
     lines = ["module m (clk, a, y);", "  input clk, a;", "  output y;", f"  wire [{count}:0] n;", "  buf (n[0], a);"]
     lines += [f"  part u{k} (.clk(clk), .a(n[{k}]), .y(n[{k + 1}]));" for k in range(count)]
     lines += [f"  buf (y, n[{count}]);", "endmodule", "module part (clk, a, y);", "  input clk, a;", "  output y;", "  wire [8:0] n;", "  buf (n[0], a);"]

@@ -53,6 +53,7 @@ module leaf (c, a, y);\n\
 endmodule\n\
 ";
 
+// The clock is that of the first cell that has one.
 const DEEP_SHOWN: &[u8] = b"c 0\n\
 a 1\n\
 y[1:0] 2 3\n\
@@ -91,7 +92,7 @@ Gate(Not) n: 1 > 4\n\
 input 0\n\
 input 1\n\
 output 2\n\
-clock 0\n\
+clock 8\n\
 ";
 
 #[test]
