@@ -95,7 +95,7 @@ def main():
                 if cells > largest:
                     continue
                 netlist = make(cells)
-                more = 1000 if cells <= 100_000 else 100
+                more = max(100, min(1000, 200_000_000 // cells))
                 answer, first, _ = run(program, folder, netlist, 1)
                 _, whole, peak = run(program, folder, netlist, 1 + more)
                 rate = cells * more / max(whole - first, 1e-9) / 1e6
