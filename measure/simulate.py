@@ -99,8 +99,8 @@ def main():
                 answer, first, _ = run(program, folder, netlist, 1)
                 _, whole, peak = run(program, folder, netlist, 1 + more)
                 rate = cells * more / max(whole - first, 1e-9) / 1e6
-                told = answer or f"{first:.2f}"
-                print(f"| {make.__name__} | {cells} | {told} | {rate:.1f} | {peak:.0f} |", flush=True)
+                told = f"`{answer}` | " if answer else f"{first:.2f} | {rate:.1f}"
+                print(f"| {make.__name__} | {cells} | {told} | {peak:.0f} |", flush=True)
 
 
 if __name__ == "__main__":
