@@ -260,3 +260,38 @@ fn each_refusal_of_a_netlist(rt: HostRuntime) -> Result<(), Fail> {
     }
     Ok(())
 }
+
+// A top below which so many instances are in one another.
+fn deep(alloc: Global, instances: usize) -> Result<Vec<u8>, Fail> {
+    let mut text = Vec::from_slice(alloc, b"module m (clk); input clk; m1 u (); endmodule ")?;
+    for k in 1..instances {
+        let module = format!(in alloc; "module m{k}; m{} u (); endmodule ", k + 1)?;
+        text.extend_from_slice(module.as_bytes())?;
+    }
+    let last = format!(in alloc; "module m{instances}; endmodule ")?;
+    text.extend_from_slice(last.as_bytes())?;
+    Ok(text)
+}
+
+const MOST_NETS: &[u8] = b"module m (clk); input clk; wire [1048574:0] v; endmodule";
+
+const MORE_NETS: &[u8] = b"module m (clk); input clk; wire [1048575:0] v; endmodule";
+
+#[test]
+fn limits_and_one_above(rt: HostRuntime) -> Result<(), Fail> {
+    let alloc = rt.alloc();
+    let text = deep(alloc, 256)?;
+    let answer = answer_to(alloc, &text, ["m", "clk"], b"\n\n")?;
+    assert_eq!(rt; answer.exit, 0);
+    let text = deep(alloc, 257)?;
+    let answer = answer_to(alloc, &text, ["m", "clk"], b"\n\n")?;
+    assert_eq!(rt; answer.errors.bytes(), b"ila: N17 Depth 257\n".as_slice());
+    let answer = answer_to(alloc, MOST_NETS, ["m", "clk"], b"\n\n")?;
+    assert_eq!(rt; answer.exit, 0);
+    let answer = answer_to(alloc, MORE_NETS, ["m", "clk"], b"\n\n")?;
+    assert_eq!(rt;
+        answer.errors.bytes(),
+        b"ila: N17 Nets 1048577\n".as_slice()
+    );
+    Ok(())
+}
