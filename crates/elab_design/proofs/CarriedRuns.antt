@@ -99,9 +99,11 @@ cells_differ net flat i j a b word at there first second = elim (order_of i j) [
 pub named_place : (d : Design) (net : Netlist) (el : Elaborates d net) (n : ℕ) (b : Bit) → slice_get (flat_map group_bits el.design_groups) n ≡ Some b → (word : List ℕ) × IsBitNamed d b word × IsNetNamed net word n
 named_place d net el n b at =
     let it = named_at el.number el.design_groups n b at in
-    let group = group_is d el.order.top el.order.is_top el.design_groups el.order.all_groups it.group it.listed in
-    (bit_name it.group.path it.group.name it.group.range it.index, bit_named d it.group it.index b group it.among it.is,
-    ap (λ (groups : List Group). slice_get (net_names groups) n) el.groups ∙ it.named)
+    let group = group_is d el.order.top el.order.is_top el.design_groups el.order.all_groups it.group it.listed in (
+      bit_name it.group.path it.group.name it.group.range it.index,
+      bit_named d it.group it.index b group it.among it.is,
+      ap (λ (groups : List Group). slice_get (net_names groups) n) el.groups ∙ it.named,
+    )
 
 pub bit_carried : (d : Design) (net : Netlist) (el : Elaborates d net) (h : DesignHistory) (g : History) → Carries d net h g → (t : ℕ) (b : Bit) → IsNetBit d b → g.bit t (el.number b) ≡ h.bit t b
 bit_carried d net el h g carries t b is =
@@ -225,7 +227,11 @@ module _ (d : Design) (net : Netlist) (clean : (f : Found) → Finds d.tree f �
       ])
 
   pub one_back : (rows : List (List Bool)) (g : History) → IsOneRun net rows g → (h : DesignHistory) × Carries d net h g × IsOneDesignRun d rows h
-  one_back rows g one = (back g, carried_back g, record {
-    run = (el.runs (back g) g (carried_back g) rows).1 one.run;
-    only = λ other run. record { bits = same_bits rows g one other run; contents = same_contents rows g one other run };
-  })
+  one_back rows g one = (
+    back g,
+    carried_back g,
+    record {
+      run = (el.runs (back g) g (carried_back g) rows).1 one.run;
+      only = λ other run. record { bits = same_bits rows g one other run; contents = same_contents rows g one other run };
+    },
+  )

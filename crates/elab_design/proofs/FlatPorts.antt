@@ -119,12 +119,12 @@ module _ (d : Design) (net : Netlist) (checked : IsChecked d.tree d.top) (flat :
       let clock = clock_bit b there in
       subst (λ w. bytes_eq w d.clock ≡ true) (sym (bit_called clock.0 b clock.2) ∙ bit_called name b own) clock.1
   clock_named name b n at own input (handed_on c a _ has buffer reads drives before) = absurd (no_pin n b at input c has (λ x is_link among. (
-    let one = one_link d c has is_link in
-    let from_a : one.source ≡ Wire a = same_Some one.source (Wire a) (ap (λ (o : DesignCell). slice_get o.ins 0) (sym one.is) ∙ reads) in
-    let there : In (one.source ∷ []) (Wire x) = subst (λ (o : DesignCell). In o.ins (Wire x)) one.is among in
-    let from_x : one.source ≡ Wire x = in_one one.source (Wire x) there in
-    let same : a ≡ x = wires a x (sym from_a ∙ from_x) in
-    subst (Driven d) same (clock_drives a before))) drives)
+      let one = one_link d c has is_link in
+      let from_a : one.source ≡ Wire a = same_Some one.source (Wire a) (ap (λ (o : DesignCell). slice_get o.ins 0) (sym one.is) ∙ reads) in
+      let there : In (one.source ∷ []) (Wire x) = subst (λ (o : DesignCell). In o.ins (Wire x)) one.is among in
+      let from_x : one.source ≡ Wire x = in_one one.source (Wire x) there in
+      let same : a ≡ x = wires a x (sym from_a ∙ from_x) in
+      subst (Driven d) same (clock_drives a before))) drives)
     where
       wires : (a x : Bit) → Wire a ≡ Wire x → a ≡ x
       wires a x is = cc is
