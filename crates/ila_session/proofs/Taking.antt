@@ -42,6 +42,7 @@ takes_same before old new left mid later rows taken kept fields bits count input
       fields = fields ∙ now.fields;
       size = ap (λ bs. length bs) bits ∙ now.size;
       taken = count ∙ now.taken;
+      few = now.few;
     }
 
 -- at the end nothing is to come

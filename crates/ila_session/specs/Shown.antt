@@ -1,5 +1,5 @@
 -- What stands after the rows of a stimulus were simulated one after the other.
-use Rattle.std.specs.Prelude.{ℕ, Bool, List, [], length, Option}
+use Rattle.std.specs.Prelude.{◌≡◌, ℕ, Bool, false, List, [], length, Option}
 use Rattle.std.specs.Io.KnownBytes.{Appends}
 use Rattle.ila_base.specs.Faults.{AppendsFront}
 use Rattle.ila_base.specs.declared.refusal.StimRefusal.{StimRefusal}
@@ -7,6 +7,7 @@ use Rattle.net_core.specs.Netlist.{Netlist}
 use Rattle.net_core.specs.Run.{History, IsRun, StandsFor}
 use Rattle.stim_read.specs.declared.inputs.DataInput.{DataInput}
 use Rattle.stim_read.specs.Reading.{Reading, rest, Refuses}
+use Rattle.stim_read.specs.Streams.{Unbroken}
 use Rattle.stim_read.specs.RowLaws.{HasTaken}
 use Rattle.ila_session.specs.Outputs.{clock_lines, outputs_text}
 
@@ -19,6 +20,10 @@ pub record ShowedRows (net : Netlist) (before : Reading) (left : Option (List �
     (after : Reading) (later : Option (List ℕ)) : Type 0 where
   pub taken : TakesRows before left rows after later
   pub stands : StandsFor net bit content rows
+
+-- of the next line only a part was read: what was read and not used yet holds no newline, and the end wasn't met
+abbrev pub ReadsOnlyPart : Reading → Type 0
+ReadsOnlyPart reading = Unbroken reading.unused × (reading.ended ≡ false)
 
 -- the lines of all clocks of the run over the rows were put behind what was written, or a front of them
 abbrev pub ShowsLines : Netlist → List (List Bool) → Option (List ℕ) → Option (List ℕ) → Type 0

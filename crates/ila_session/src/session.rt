@@ -9,7 +9,7 @@ ghost use Rattle.stim_read.specs.Streams.{IsDrained};
 ghost use Rattle.ila_session.specs.declared.fault.SessionFault.TheVariants as fault;
 ghost use Rattle.ila_session.specs.Outputs.{header_line, clock_line};
 ghost use Rattle.ila_session.specs.Pieces.{piece_byte, HasDataNets};
-ghost use Rattle.ila_session.specs.Shown.{ShowedRows, ShowsLines, ShowsLinesFront, ShowsRun, ShowsRunFront, RefusesBehind};
+ghost use Rattle.ila_session.specs.Shown.{ShowedRows, ReadsOnlyPart, ShowsLines, ShowsLinesFront, ShowsRun, ShowsRunFront, RefusesBehind};
 
 use crate::fault::SessionFault;
 use crate::pieces::{Piece, piece_byte};
@@ -76,6 +76,7 @@ fn show_rows<M: Machine, S: Source, K: Sink>(
         × StandsFor (M.netlist machine.old) (M.bit machine.new) (M.content machine.new) rows
         × ShowsLines (M.netlist machine.old) rows (K.written trace.old) (K.written trace.new) }
     ensures read_fault { result ≡ Err fault.ReadFault → (rows : List (List Bool)) × Rose (S.faults source.old) (S.faults source.new)
+        × ReadsOnlyPart stim.new
         × ShowedRows (M.netlist machine.old) stim.old (S.left source.old) rows (M.bit machine.new) (M.content machine.new) stim.new (S.left source.new)
         × ShowsLines (M.netlist machine.old) rows (K.written trace.old) (K.written trace.new) }
     ensures write_fault { result ≡ Err fault.WriteFault → (rows : List (List Bool)) × Rose (K.faults trace.old) (K.faults trace.new)
@@ -148,6 +149,7 @@ pub fn show<M: Machine, S: Source, K: Sink>(
         × StandsFor flat.now (M.bit machine.new) (M.content machine.new) rows
         × ShowsRun flat.now rows (K.written trace.old) (K.written trace.new) }
     ensures read_fault { result ≡ Err fault.ReadFault → (rows : List (List Bool)) × Rose (S.faults source.old) (S.faults source.new)
+        × ReadsOnlyPart stim.new
         × ShowedRows flat.now stim.old (S.left source.old) rows (M.bit machine.new) (M.content machine.new) stim.new (S.left source.new)
         × ShowsRun flat.now rows (K.written trace.old) (K.written trace.new) }
     ensures write_fault { result ≡ Err fault.WriteFault → (rows : List (List Bool)) × Rose (K.faults trace.old) (K.faults trace.new)

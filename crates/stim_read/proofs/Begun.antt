@@ -2,13 +2,13 @@
 use Rattle.std.proofs.Common.{◌≡◌, ℕ, ◌+◌, ◌<◌, ◌≤◌, Bool, false, List, [], ◌∷◌, length, All, Option, Some, None, ap, sym, subst, ◌∙◌, refl, arith}
 use Rattle.std.specs.Prelude.{sum, sum_by, replicate}
 use Rattle.std.specs.Str.Lines.{lines}
-use Rattle.std.specs.Io.KnownBytes.{IsAtEnd}
+use Rattle.std.specs.Io.KnownBytes.{Keeps, IsAtEnd}
 use Rattle.std.proofs.lemmas.List.{length-map, length-replicate}
 use Rattle.stim_read.specs.declared.inputs.DataInput.{DataInput}
 use Rattle.stim_read.specs.declared.inputs.Field.{Field}
 use Rattle.stim_read.specs.Words.{AllFit, AllApart}
 use Rattle.stim_read.specs.Stimulus.{names_of, widths_of, fields_of, digits_of, IsOrder, IsHeader}
-use Rattle.stim_read.specs.Streams.{between, TakesLine, HasLongLine}
+use Rattle.stim_read.specs.Streams.{Unbroken, between, ReadsPart, TakesLine, HasLongLine}
 use Rattle.stim_read.specs.Reading.{HasNoHeader}
 use Rattle.stim_read.proofs.Whole.{whole}
 use Rattle.stim_read.proofs.Answered.{long_first}
@@ -25,6 +25,17 @@ pub start_is : (line buffer : List ℕ) (at end : ℕ) (ended : Bool) (left : Op
 start_is line buffer at end ended left empty from to begins =
     ap (λ xs. whole xs (between buffer at end) ended left) empty ∙ ap (λ n. whole [] (between buffer n end) ended left) from
     ∙ ap (λ n. whole [] (between buffer 0 n) ended left) to ∙ ap (λ e. whole [] [] e left) begins ∙ nothing_read left
+
+part_of : (text : Option (List ℕ)) (line : List ℕ) (left : Option (List ℕ)) → Keeps text (whole line [] false left) → Unbroken line → ReadsPart text left
+part_of None line left kept clean = tt
+part_of (Some text) line None kept clean = kept
+part_of (Some text) line (Some left) kept clean = (line, clean, sym kept)
+
+-- Where the first line isn't read to its end, a part of it was.
+pub begun_part : (text : Option (List ℕ)) (line ahead : List ℕ) (ended : Bool) (left : Option (List ℕ)) → Keeps text (whole line ahead ended left)
+    → Unbroken line → ahead ≡ [] → ended ≡ false → ReadsPart text left
+begun_part text line ahead ended left kept clean none going =
+    part_of text line left (subst (λ e. Keeps text (whole line [] e left)) going (subst (λ xs. Keeps text (whole line xs ended left)) none kept)) clean
 
 -- Nothing is no header.
 pub end_no_header : (inputs : List DataInput) (text : Option (List ℕ)) → IsAtEnd text → HasNoHeader inputs text

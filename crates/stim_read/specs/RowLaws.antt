@@ -1,5 +1,5 @@
 -- The rows of a text, taken one after the other: laws for all who read a stimulus to its end.
-use Rattle.std.proofs.Common.{◌≡◌, ℕ, ◌+◌, Bool, false, List, [], ◌∷◌, ◌++◌, length, Option, Some, None, refl, sym, ◌∙◌, ap, subst, arith, length-append, append_assoc, append-nil}
+use Rattle.std.proofs.Common.{◌≡◌, ℕ, ◌+◌, ◌<◌, ◌≤◌, Bool, false, List, [], ◌∷◌, ◌++◌, length, Option, Some, None, refl, sym, ◌∙◌, ap, subst, arith, length-append, append_assoc, append-nil}
 use Rattle.std.specs.Prelude.{sum}
 use Rattle.std.specs.Str.Lines.{lines}
 use Rattle.std.specs.Io.KnownBytes.{IsAtEnd}
@@ -8,7 +8,7 @@ use Rattle.stim_read.specs.declared.inputs.DataInput.{DataInput}
 use Rattle.stim_read.specs.declared.inputs.Field.{Field}
 use Rattle.stim_read.specs.Stimulus.{names_of, widths_of, fields_of, IsHeader, IsRow, AreRows, IsStimulus}
 use Rattle.stim_read.specs.Streams.{TakesLine}
-use Rattle.stim_read.specs.Reading.{Reading, rest, Begins, TakesRow}
+use Rattle.stim_read.specs.Reading.{Reading, rest, most_rows, Begins, TakesRow}
 
 -- Rows of a text were taken: its lines are a header, the lines of these rows, and those still to come.
 pub record HasTaken (inputs : List DataInput) (text : List ℕ) (rows : List (List Bool)) (reading : Reading) (left : Option (List ℕ)) : Type 0 where
@@ -23,6 +23,7 @@ pub record HasTaken (inputs : List DataInput) (text : List ℕ) (rows : List (Li
   pub fields : reading.fields ≡ fields_of (widths_of inputs) order
   pub size : length reading.bits ≡ sum (widths_of inputs)
   pub taken : reading.taken ≡ length rows
+  pub few : length rows ≤ most_rows
 
 begun_from : (inputs : List DataInput) (text : List ℕ) (reading : Reading) (left now : Option (List ℕ)) → now ≡ rest reading left
     → (line order : List ℕ) → TakesLine (Some text) line now → IsHeader (names_of inputs) order line → reading.fields ≡ fields_of (widths_of inputs) order
@@ -40,6 +41,7 @@ begun_from inputs text reading left (Some bytes) is line order first named field
   fields = fields;
   size = size;
   taken = taken;
+  few = omega arith;
 }
 
 -- Before the first row none was taken.
@@ -58,9 +60,9 @@ rows_push fields size (other ∷ body) (first ∷ rows) line row are is_row = (a
 
 step_from : (inputs : List DataInput) (text : List ℕ) (rows : List (List Bool)) (old new : Reading) (left after now : Option (List ℕ)) → now ≡ rest new after
     → (has : HasTaken inputs text rows old left) → (line : List ℕ) → TakesLine (Some has.bytes) line now → IsRow old.fields (length old.bits) line new.bits
-    → new.taken ≡ old.taken + 1 → new.fields ≡ old.fields → length new.bits ≡ length old.bits → HasTaken inputs text (rows ++ new.bits ∷ []) new after
-step_from inputs text rows old new left after None is has line first row counted fields size = absurd first
-step_from inputs text rows old new left after (Some bytes) is has line first row counted fields size = record {
+    → old.taken < most_rows → new.taken ≡ old.taken + 1 → new.fields ≡ old.fields → length new.bits ≡ length old.bits → HasTaken inputs text (rows ++ new.bits ∷ []) new after
+step_from inputs text rows old new left after None is has line first row fewer counted fields size = absurd first
+step_from inputs text rows old new left after (Some bytes) is has line first row fewer counted fields size = record {
   order = has.order;
   header = has.header;
   body = has.body ++ line ∷ [];
@@ -74,6 +76,7 @@ step_from inputs text rows old new left after (Some bytes) is has line first row
   fields = fields ∙ has.fields;
   size = size ∙ has.size;
   taken = omega (arith, counted, has.taken, length-append rows (new.bits ∷ []));
+  few = omega (arith, fewer, has.taken, length-append rows (new.bits ∷ []));
 }
 
 -- One row more was taken.
@@ -82,7 +85,7 @@ pub taken_more : (inputs : List DataInput) (text : List ℕ) (rows : List (List 
     → HasTaken inputs text (rows ++ new.bits ∷ []) new after
 taken_more inputs text rows old new left after has takes fields size =
     step_from inputs text rows old new left after (rest new after) refl has takes.line
-    (subst (λ w. TakesLine w takes.line (rest new after)) has.told takes.first) takes.row takes.counted fields size
+    (subst (λ w. TakesLine w takes.line (rest new after)) has.told takes.first) takes.row takes.fewer takes.counted fields size
 
 -- At the end the text stands for the rows that were taken.
 pub taken_all : (inputs : List DataInput) (text : List ℕ) (rows : List (List Bool)) (reading : Reading) (left : Option (List ℕ)) → HasTaken inputs text rows reading left

@@ -28,6 +28,12 @@ rest_of unused false left = prepend_known unused left
 abbrev pub IsDrained : Bool → Option (List ℕ) → Type 0
 IsDrained ended left = ended ≡ true → IsAtEnd left
 
+-- Where the bytes are told, only a part of a line was read of them: bytes without a newline, before what is left.
+abbrev pub ReadsPart : Option (List ℕ) → Option (List ℕ) → Type 0
+ReadsPart None left = ⊤
+ReadsPart (Some bytes) None = ⊥
+ReadsPart (Some bytes) (Some left) = (part : List ℕ) × Unbroken part × (bytes ≡ part ++ left)
+
 -- What a search for a newline found in bytes behind a begun line. They are moved to the line up to
 -- the newline, or all of them, but for a line that then would have too many bytes.
 abbrev pub Finds : Found → ℕ → List ℕ → List ℕ → List ℕ → List ℕ → Type 0

@@ -10,7 +10,7 @@ ghost use Rattle.stim_read.specs.Ports.{data_inputs};
 ghost use Rattle.stim_read.specs.Stimulus.{IsRow, AreNames, names_of};
 ghost use Rattle.stim_read.specs.Words.{AllFit, AllApart};
 ghost use Rattle.stim_read.specs.Reading.{Reading, rest, most_rows, TakesRow, Refuses, RefusesLine, IsSomeRow, Begins, HasNoHeader};
-ghost use Rattle.stim_read.specs.Streams.{Unbroken, IsDrained};
+ghost use Rattle.stim_read.specs.Streams.{Unbroken, ReadsPart, IsDrained};
 
 use crate::faults::{StimFault, StimStop};
 use crate::header::header;
@@ -97,6 +97,7 @@ impl Stim {
         requires { AreNames (names_of inputs.now) }
         ensures begun { IfOk result (λ stim. Begins inputs.now (S.left source.old) (S.left source.new) stim) }
         ensures refused { (why : StimRefusal) → result ≡ Err (stop.Refused why) → (why ≡ refusal.Header) × HasNoHeader inputs.now (S.left source.old) }
+        ensures fault { result ≡ Err stop.ReadFault → ReadsPart (S.left source.old) (S.left source.new) }
         ensures cause { result ≡ Err stop.ReadFault → Rose (S.faults source.old) (S.faults source.new) }
         ensures drained { IfOk result (λ stim. IsDrained stim.ended (S.left source.new)) }
         ensures later { S.faults source.old ≤ S.faults source.new }
@@ -131,6 +132,7 @@ impl Stim {
         ensures begun { IfOk result (λ stim. Begins (data_inputs flat.now) (S.left source.old) (S.left source.new) stim) }
         ensures size { IfOk result (λ stim. length stim.bits ≡ length (input_nets flat.now)) }
         ensures refused { (why : StimRefusal) → result ≡ Err (stop.Refused why) → (why ≡ refusal.Header) × HasNoHeader (data_inputs flat.now) (S.left source.old) }
+        ensures fault { result ≡ Err stop.ReadFault → ReadsPart (S.left source.old) (S.left source.new) }
         ensures cause { result ≡ Err stop.ReadFault → Rose (S.faults source.old) (S.faults source.new) }
         ensures drained { IfOk result (λ stim. IsDrained stim.ended (S.left source.new)) }
         ensures later { S.faults source.old ≤ S.faults source.new }

@@ -29,9 +29,10 @@ returns-clause-read_fault g c = λ is.
     let own = c.show_rows.ensures.read_fault is in (
       own.0,
       own.1,
-      showed_on _ _ c.requires.netlist _ _ _ _ own.0 _ _ own.2,
+      own.2,
+      showed_on _ _ c.requires.netlist _ _ _ _ own.0 _ _ own.3,
       with_header c.args.flat.now _ c.requires.netlist c.deref.result.now (c.deref.ensures.value ∙ c.in_ok-lines.ensures.header) (g.K.Sink.written c.args.trace.now) (g.K.Sink.written c.write_all.new.sink)
-          (g.K.Sink.written c.show_rows.new.trace) c.in_ok-write_all.ensures.bytes own.0 own.3,
+          (g.K.Sink.written c.show_rows.new.trace) c.in_ok-write_all.ensures.bytes own.0 own.4,
     )
 
 pub returns-clause-write_fault : goal.returns-clause-write_fault

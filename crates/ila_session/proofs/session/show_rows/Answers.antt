@@ -34,6 +34,7 @@ returns-in-Err-ReadFault-clause-read_fault g c = λ is.
     let cause = c.in-Err-ReadFault.ensures.cause (ap Err c.in-Err-ReadFault.field-0-is) in (
       inv.rows,
       omega (arith, inv.read_later, cause),
+      (fault.1, fault.2),
       record {
         taken = takes_same c.args.stim.now c.loop-why.stim c.next.new.self (g.S.Source.left c.args.source.now) (g.S.Source.left c.loop-why.source) (g.S.Source.left c.next.new.source) inv.rows
             inv.showed.taken fault.0 c.in-Err-ReadFault.ensures.fields.0 kept.0 kept.1;

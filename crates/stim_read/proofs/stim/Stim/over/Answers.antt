@@ -1,10 +1,22 @@
 use Rattle.std.proofs.Common.{◌≡◌, ℕ, false, replicate, List, Ok, ap, subst, ◌∙◌, refl}
+use Rattle.std.specs.Io.KnownBytes.{Keeps}
 use Rattle.ila_base.specs.declared.refusal.StimRefusal.TheVariants.{Header}
 use Rattle.stim_read.specs.Stimulus.{names_of, widths_of, fields_of, IsHeader}
 use Rattle.stim_read.specs.Streams.{between, rest_of, TakesLine, HasLongLine}
 use Rattle.stim_read.proofs.Answered.{cleared}
-use Rattle.stim_read.proofs.Begun.{start_is, long_no_header, line_no_header, order_of, begun_keeps}
+use Rattle.stim_read.proofs.Whole.{whole, nothing_between}
+use Rattle.stim_read.proofs.Begun.{start_is, begun_part, long_no_header, line_no_header, order_of, begun_keeps}
 use Rattle.stim_read.proofs.stim.Stim.over.Goals as goal
+
+pub returns-in_err-next_line-clause-fault : goal.returns-in_err-next_line-clause-fault
+returns-in_err-next_line-clause-fault g c = λ _.
+    let lines = c.in_ok-lines.lines in
+    let new = c.in_ok-lines.ensures in
+    let after = c.next_line.new.self in
+    let all = start_is lines.line.items lines.buffer.items lines.at lines.end lines.ended (g.S.Source.left c.args.source.now) new.0 new.1 new.2 new.4 in
+    begun_part (g.S.Source.left c.args.source.now) after.line.items (between after.buffer.items after.at after.end) after.ended (g.S.Source.left c.next_line.new.source)
+    (subst (λ w. Keeps w (whole after.line.items (between after.buffer.items after.at after.end) after.ended (g.S.Source.left c.next_line.new.source))) all c.in_err-next_line.ensures.rest)
+    after.unbroken (nothing_between after.buffer.items after.at after.end c.in_err-next_line.ensures.stays.0) c.in_err-next_line.ensures.stays.1
 
 pub returns-in-TooLong-clause-refused : goal.returns-in-TooLong-clause-refused
 returns-in-TooLong-clause-refused g c = λ why is.
