@@ -1,5 +1,5 @@
 -- A design, its top, and the count of its top: why it is refused.
-use Rattle.std.proofs.Common.{◌≡◌, ℕ, ◌<◌, ◌≤◌, List, [], ◌∷◌, Some, None, Result, Ok, Err, IfErr, inl, inr, refl, ap, sym, ◌∙◌, subst, arith}
+use Rattle.std.proofs.Common.{◌≡◌, ℕ, ◌<◌, ◌≤◌, List, [], ◌∷◌, Some, None, Result, Ok, Err, IfOk, IfErr, OnOk, inl, inr, refl, ap, sym, ◌∙◌, subst, arith}
 use Rattle.std.proofs.lemmas.Option.{same_Some}
 use Rattle.ila_base.specs.declared.refusal.NetRefusal.TheVariants.{Limit}
 use Rattle.ila_base.specs.declared.refusal.LimitKind.{LimitKind}
@@ -89,3 +89,7 @@ refused_after d raw stops.NoMemory clock limits is found = tt
 pub err_then : {A E : Type 0} (r : Result A E) (P Q : E → Type 0) → ((e : E) → P e → Q e) → IfErr r P → IfErr r Q
 err_then (Ok a) P Q step holds = tt
 err_then (Err e) P Q step holds = step e holds
+
+pub ok_then : {A E : Type 0} (r : Result A E) (P : A → Type 0) (Q : Type 0) → ((a : A) → P a → Q) → IfOk r P → OnOk r Q
+ok_then (Ok a) P Q step holds = step a holds
+ok_then (Err e) P Q step holds = tt

@@ -1,7 +1,8 @@
-ghost use Rattle.std.specs.Prelude.{◌≡◌, ◌<◌, length, Some, None, IfOk, IfErr, MatchOption};
+ghost use Rattle.std.specs.Prelude.{◌≡◌, ◌<◌, length, Some, None, IfOk, IfErr, OnOk, MatchOption};
 ghost use Rattle.ila_base.specs.declared.refusal.NetRefusal.TheVariants as refusals;
 ghost use Rattle.net_core.specs.Netlist.{parts_of};
 ghost use Rattle.net_core.specs.WellFormed.{IsFlat};
+ghost use Rattle.vlog_lex.specs.declared.token.NetFault.{NetFault as NetFaultOf};
 ghost use Rattle.vlog_lex.specs.Cutting.{StopsFor};
 ghost use Rattle.vlog_parse.specs.ReadTree.{IsReadTree};
 ghost use Rattle.vlog_check.specs.Scope.{module_number};
@@ -19,7 +20,7 @@ use crate::clock::is_clock;
 use crate::limits::first_above;
 use elab_amounts::counts_are_amounts;
 use elab_count::count_all;
-use elab_design::{elaborates, has_counts, raw_is_unfolded};
+use elab_design::{elaborates, has_counts, one_fault, raw_is_unfolded};
 use elab_scope::{Count, Counts, read_modules};
 use elab_unfold::unfold;
 use flat_settle::{Raw, Unsettled, settle};
@@ -136,10 +137,12 @@ fn flatten_tree(alloc: Global, tree: &Tree, name: &[u8], clock: &[u8]) -> Result
     requires checked { IsChecked tree.now name.now }
     ensures found { IfOk result (Elaborates (record { tree = tree.now; top = name.now; clock = clock.now })) }
     ensures kept { IfOk result IsFlat }
+    ensures accepted { OnOk result ((f : NetFaultOf) → ¬ IsElabFault (record { tree = tree.now; top = name.now; clock = clock.now }) f) }
     ensures refused { IfErr result (StopsFor (IsElabFault (record { tree = tree.now; top = name.now; clock = clock.now }))) }
 {
     elaborates();
     has_counts();
+    one_fault();
     raw_is_unfolded();
     counts_are_amounts();
     let top = top_number(alloc, tree, name)?;
@@ -163,6 +166,8 @@ fn flatten_tree(alloc: Global, tree: &Tree, name: &[u8], clock: &[u8]) -> Result
 pub fn flatten(alloc: Global, design: &Checked, clock: &str) -> Result<Flat, NetStop>
     ensures found { IfOk result (Elaborates (record { tree = design.now.tree; top = design.now.top; clock = clock.now })) }
     ensures kept { IfOk result IsFlat }
+    // No sentence of a refusal holds of a design that is flattened.
+    ensures accepted { OnOk result ((f : NetFaultOf) → ¬ IsElabFault (record { tree = design.now.tree; top = design.now.top; clock = clock.now }) f) }
     ensures refused { IfErr result (StopsFor (IsElabFault (record { tree = design.now.tree; top = design.now.top; clock = clock.now }))) }
 {
     let name = design.top().bytes();

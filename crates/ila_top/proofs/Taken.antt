@@ -2,7 +2,7 @@
 use Rattle.std.proofs.Common.{◌≡◌, ℕ, ◌≤◌, Bool, List, ◌∷◌, ◌++◌, length, Option, Some, None, ◌⊎◌, refl, sym, ◌∙◌, ap, subst, inl, inr, arith}
 use Rattle.std.specs.Prelude.{sum}
 use Rattle.std.specs.Str.Lines.{lines}
-use Rattle.std.specs.Io.KnownBytes.{Keeps, IsAtEnd}
+use Rattle.std.specs.Io.KnownBytes.{Keeps, IsAtEnd, prepend_known}
 use Rattle.ila_base.specs.Faults.{Rose}
 use Rattle.ila_base.specs.declared.refusal.StimRefusal.{StimRefusal}
 use Rattle.ila_base.specs.declared.refusal.StimRefusal.TheVariants.{Header, Line, Limit}
@@ -11,13 +11,14 @@ use Rattle.stim_read.specs.declared.inputs.DataInput.{DataInput}
 use Rattle.stim_read.specs.declared.inputs.Field.{Field}
 use Rattle.stim_read.specs.Stimulus.{widths_of, fields_of}
 use Rattle.stim_read.specs.Reading.{Reading, rest, Refuses, RefusesLine, IsSomeRow, Begins as HasBegun}
+use Rattle.stim_read.specs.Streams.{Unbroken, rest_of}
 use Rattle.stim_read.specs.RowLaws.{HasTaken, begun_taken, taken_all}
 use Rattle.elab_design.specs.Design.{Design}
-use Rattle.ila_session.specs.Shown.{TakesRows, RefusesBehind as IsRefusedBehind}
+use Rattle.ila_session.specs.Shown.{TakesRows, ReadsOnlyPart, RefusesBehind as IsRefusedBehind}
 use Rattle.design_text.specs.DesignText.{design_inputs, ShowsDesign}
 use Rattle.ila_top.specs.declared.status.Status.{Status}
 use Rattle.ila_top.specs.declared.status.Status.TheVariants.{Stimulus, ReadFault, NoMemory}
-use Rattle.ila_top.specs.Rows.{BeginsIfTold, HasRowsIfTold, RefusesIfTold, RefusesBehind}
+use Rattle.ila_top.specs.Rows.{BeginsIfTold, HasRowsIfTold, RefusesIfTold, ReadsRowsIfTold, RefusesBehind}
 use Rattle.ila_top.specs.Answers.{Streams, SimAnswer, BeginAnswer, LeavesTrace}
 
 module _ (inputs : List DataInput) (start : Option (List ℕ)) (reading : Reading) (rows : List (List Bool)) where
@@ -28,10 +29,30 @@ module _ (inputs : List DataInput) (start : Option (List ℕ)) (reading : Readin
       let has : HasTaken inputs text rows after later = taken inputs text (begun_taken inputs text reading start begun) in
       (has.order, lines has.bytes, record { header = has.header; taken = has.body; cut = has.cut; named = has.named; each = has.each })
 
+  read_at : (text : List ℕ) (after : Reading) (later : Option (List ℕ)) → (has : HasTaken inputs text rows after later) → Unbroken after.unused
+      → prepend_known after.unused later ≡ Some has.bytes → ReadsRowsIfTold inputs (Some text) rows later
+  read_at text after None has clean told = absurd (cc told)
+  read_at text after (Some left) has clean told =
+      let behind : has.bytes ≡ after.unused ++ left = cc told in (
+        has.order,
+        after.unused,
+        clean,
+        record { header = has.header; taken = has.body; cut = has.cut ∙ ap (λ bytes. has.header ∷ (has.body ++ lines bytes)) behind; named = has.named; each = has.each },
+      )
+
+  pub rows_read : (text : Option (List ℕ)) (after : Reading) (later : Option (List ℕ)) → HasBegun inputs text start reading → TakesRows reading start rows after later
+      → ReadsOnlyPart after → ReadsRowsIfTold inputs text rows later
+  rows_read None after later begun taken part = tt
+  rows_read (Some text) after later begun taken part =
+      let has : HasTaken inputs text rows after later = taken inputs text (begun_taken inputs text reading start begun) in
+      read_at text after later has part.0 (ap (λ ended. rest_of after.unused ended later) (sym part.1) ∙ has.told)
+
   pub rows_all : (text : Option (List ℕ)) (after : Reading) (later : Option (List ℕ)) → HasBegun inputs text start reading → TakesRows reading start rows after later
       → IsAtEnd (rest after later) → HasRowsIfTold inputs text rows
   rows_all None after later begun taken over = tt
-  rows_all (Some text) after later begun taken over = taken_all inputs text rows after later (taken inputs text (begun_taken inputs text reading start begun)) over
+  rows_all (Some text) after later begun taken over =
+      let has : HasTaken inputs text rows after later = taken inputs text (begun_taken inputs text reading start begun) in
+      (taken_all inputs text rows after later has over, has.few)
 
   refused_at : (text : List ℕ) (now : Reading) (later : Option (List ℕ)) (why : StimRefusal) → HasTaken inputs text rows now later → Refuses now (rest now later) why
       → RefusesBehind inputs text rows why
@@ -89,26 +110,12 @@ answer_refused d top before after Header behind rows told shown = absurd (behind
 answer_refused d top before after (Line n) behind rows told shown = (rows, told, shown)
 answer_refused d top before after (Limit n) behind rows told shown = (rows, told, shown)
 
-pub leaves_refused : (old new : Option (List ℕ)) (why : StimRefusal) → (why ≡ Header → ⊥) → LeavesTrace old new (Stimulus why)
-leaves_refused old new Header behind = absurd (behind refl)
-leaves_refused old new (Line n) behind = tt
-leaves_refused old new (Limit n) behind = tt
-
 -- The header isn't read: what stands then, where the trace is as it was.
 pub answer_begin : (d : Design) (top : Module) (before after : Streams) (inputs : List DataInput) (status : Status) → inputs ≡ design_inputs top d.clock
-    → Keeps before.written after.written → BeginAnswer inputs before.left before.read_faults after.read_faults status → SimAnswer d top before after status
-answer_begin d top before after inputs (Stimulus Header) same keeps answer = subst (λ i. BeginAnswer i before.left before.read_faults after.read_faults (Stimulus Header)) same answer
+    → Keeps before.written after.written → BeginAnswer inputs before.left after.left before.read_faults after.read_faults status → SimAnswer d top before after status
+answer_begin d top before after inputs (Stimulus Header) same keeps answer = subst (λ i. BeginAnswer i before.left after.left before.read_faults after.read_faults (Stimulus Header)) same answer
 answer_begin d top before after inputs (Stimulus (Line _)) same keeps answer = absurd answer
 answer_begin d top before after inputs (Stimulus (Limit _)) same keeps answer = absurd answer
-answer_begin d top before after inputs ReadFault same keeps answer = (answer, inl keeps)
+answer_begin d top before after inputs ReadFault same keeps answer = (answer.0, inl (answer.1, keeps))
 answer_begin d top before after inputs NoMemory same keeps answer = tt
 answer_begin d top before after inputs _ same keeps answer = absurd answer
-
-pub leaves_begin : (old new : Option (List ℕ)) (inputs : List DataInput) (text : Option (List ℕ)) (a b : ℕ) (status : Status) → Keeps old new
-    → BeginAnswer inputs text a b status → LeavesTrace old new status
-leaves_begin old new inputs text a b (Stimulus Header) keeps answer = keeps
-leaves_begin old new inputs text a b (Stimulus (Line _)) keeps answer = tt
-leaves_begin old new inputs text a b (Stimulus (Limit _)) keeps answer = tt
-leaves_begin old new inputs text a b ReadFault keeps answer = tt
-leaves_begin old new inputs text a b NoMemory keeps answer = keeps
-leaves_begin old new inputs text a b _ keeps answer = absurd answer

@@ -15,10 +15,11 @@ use Rattle.vlog_parse.specs.declared.tree.Tree.{Tree}
 use Rattle.vlog_parse.specs.declared.tree.Module.{Module}
 use Rattle.stim_read.specs.declared.inputs.DataInput.{DataInput}
 use Rattle.stim_read.specs.Reading.{HasNoHeader}
+use Rattle.stim_read.specs.Streams.{ReadsPart}
 use Rattle.elab_design.specs.Design.{Design, IsTop}
 use Rattle.design_text.specs.DesignText.{design_inputs, ShowsDesign, ShowsDesignFront}
 use Rattle.ila_top.specs.Reading.{IsTextFault, IsAcceptedText, design_of, nowhere}
-use Rattle.ila_top.specs.Rows.{BeginsIfTold, HasRowsIfTold, RefusesIfTold}
+use Rattle.ila_top.specs.Rows.{BeginsIfTold, HasRowsIfTold, RefusesIfTold, ReadsRowsIfTold}
 use Rattle.ila_top.specs.declared.status.Status.{Status}
 use Rattle.ila_top.specs.declared.status.Status.TheVariants.{Done, Usage, Netlist, Project, Tsm, Resource, Settings, Stimulus, NoFile, ShelfFault, ReadFault, WriteFault, NoMemory}
 
@@ -128,10 +129,15 @@ pub record Streams : Type 0 where
 abbrev pub streams_of : Outside → Streams
 streams_of o = record { left = o.left; read_faults = o.read_faults; written = o.written; write_faults = o.write_faults }
 
--- The first rows of the stimulus were taken, and the outputs text of the design's one run over them was put behind the trace.
+-- Of the stimulus not even the first line was read whole, and the trace is as it was.
+abbrev pub IsBarelyRead : Streams → Streams → Type 0
+IsBarelyRead before after = ReadsPart before.left after.left × Keeps before.written after.written
+
+-- All rows of the stimulus that were read whole were taken, and the outputs text of the design's one run over them was put behind the
+-- trace.
 pub record ShowsTaken (d : Design) (top : Module) (before after : Streams) : Type 0 where
   pub rows : List (List Bool)
-  pub taken : BeginsIfTold (design_inputs top d.clock) before.left rows
+  pub taken : ReadsRowsIfTold (design_inputs top d.clock) before.left rows after.left
   pub shown : ShowsDesign d rows before.written after.written
 
 -- What simulating an accepted design ends in, each answer with its cause and with what the trace has gained.
@@ -142,18 +148,18 @@ SimAnswer d top before after (Stimulus stim.Header) = HasNoHeader (design_inputs
 SimAnswer d top before after (Stimulus why) = (rows : List (List Bool)) × RefusesIfTold (design_inputs top d.clock) before.left rows why
     × ShowsDesign d rows before.written after.written
 SimAnswer d top before after ReadFault = Rose before.read_faults after.read_faults
-    × (Keeps before.written after.written ⊎ ShowsTaken d top before after)
+    × (IsBarelyRead before after ⊎ ShowsTaken d top before after)
 SimAnswer d top before after WriteFault = Rose before.write_faults after.write_faults
     × ((rows : List (List Bool)) × BeginsIfTold (design_inputs top d.clock) before.left rows × ShowsDesignFront d rows before.written after.written)
 SimAnswer d top before after NoMemory = ⊤
 SimAnswer d top before after _ = ⊥
 
--- what reading the header of the stimulus may end in
-abbrev pub BeginAnswer : List DataInput → Option (List ℕ) → ℕ → ℕ → Status → Type 0
-BeginAnswer inputs text faults_before faults_after (Stimulus stim.Header) = HasNoHeader inputs text
-BeginAnswer inputs text faults_before faults_after ReadFault = Rose faults_before faults_after
-BeginAnswer inputs text faults_before faults_after NoMemory = ⊤
-BeginAnswer inputs text faults_before faults_after _ = ⊥
+-- what reading the header of the stimulus may end in, where this was left of it
+abbrev pub BeginAnswer : List DataInput → Option (List ℕ) → Option (List ℕ) → ℕ → ℕ → Status → Type 0
+BeginAnswer inputs text left faults_before faults_after (Stimulus stim.Header) = HasNoHeader inputs text
+BeginAnswer inputs text left faults_before faults_after ReadFault = Rose faults_before faults_after × ReadsPart text left
+BeginAnswer inputs text left faults_before faults_after NoMemory = ⊤
+BeginAnswer inputs text left faults_before faults_after _ = ⊥
 
 -- Why `sim` with these words answers as it does.
 abbrev pub SimCause : SimWords → Outside → Outside → Status → Type 0

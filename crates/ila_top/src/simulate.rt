@@ -28,7 +28,7 @@ fn begin<S: Source>(alloc: Global, flat: &Flat, stimulus: &mut S) -> Result<Stim
     ensures begun { IfOk result (λ stim. Begins (ports.data_inputs flat.now) (S.left stimulus.old) (S.left stimulus.new) stim) }
     ensures size { IfOk result (λ stim. length stim.bits ≡ length (input_nets flat.now)) }
     ensures drained { IfOk result (λ stim. IsDrained stim.ended (S.left stimulus.new)) }
-    ensures cause { IfErr result (BeginAnswer (ports.data_inputs flat.now) (S.left stimulus.old) (S.faults stimulus.old) (S.faults stimulus.new)) }
+    ensures cause { IfErr result (BeginAnswer (ports.data_inputs flat.now) (S.left stimulus.old) (S.left stimulus.new) (S.faults stimulus.old) (S.faults stimulus.new)) }
     ensures later { S.faults stimulus.old ≤ S.faults stimulus.new }
 {
     match Stim::new(alloc, stimulus, flat) {

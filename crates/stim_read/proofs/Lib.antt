@@ -11,5 +11,6 @@ pub mod Rooms
 pub mod Answered
 pub mod Begun
 pub mod Once
+pub mod OneRefusal
 mod DataPorts
 mod DataNames

@@ -111,7 +111,7 @@ rows_once widths order (line ∷ body) (row ∷ rows) (other ∷ others) is_orde
     ∙ ap (λ rs. other ∷ rs) (rows_once widths order body rows others is_order are.1 again.1)
 
 -- A header has at most one order.
-order_once : (names : List (List ℕ)) (order other line : List ℕ) → AreNames names → IsHeader names order line → IsHeader names other line → order ≡ other
+pub order_once : (names : List (List ℕ)) (order other line : List ℕ) → AreNames names → IsHeader names order line → IsHeader names other line → order ≡ other
 order_once names order other line named first second = by_size (cases_eq (length names) 0)
   where
     none : (ks : List ℕ) → length names ≡ 0 → All (λ k. k < length names) ks → ks ≡ []

@@ -5,3 +5,4 @@ pub mod Streams
 pub mod Ports
 pub mod Reading
 pub mod RowLaws
+pub mod Refused

@@ -1,8 +1,13 @@
 ghost use Rattle.std.specs.Prelude.{◌≡◌, ℕ, ◌++◌, ◌∷◌, ◌≤◌, [], Bool, List, Option, Some, length};
 ghost use Rattle.std.specs.Io.KnownBytes.{IsAtEnd};
+ghost use Rattle.ila_base.specs.declared.refusal.StimRefusal.{StimRefusal as StimRefusalOf};
+ghost use Rattle.net_core.specs.Netlist.{Netlist as NetlistOf};
+ghost use Rattle.net_core.specs.WellFormed.{IsFlat};
 ghost use Rattle.stim_read.specs.declared.inputs.DataInput.{DataInput};
 ghost use Rattle.stim_read.specs.Stimulus.{AreNames, names_of, IsStimulus};
 ghost use Rattle.stim_read.specs.Reading.{Reading, rest, most_rows, Begins, TakesRow};
+ghost use Rattle.stim_read.specs.Refused.{IsRefused};
+ghost use Rattle.stim_read.specs.Ports.{data_inputs};
 ghost use Rattle.stim_read.specs.RowLaws.{HasTaken};
 
 /// A text stands for at most one list of rows.
@@ -17,4 +22,16 @@ pub fn rows_are_taken()
     ensures more { (inputs : List DataInput) (text : List ℕ) (rows : List (List Bool)) (old new : Reading) (left after : Option (List ℕ)) → HasTaken inputs text rows old left → TakesRow old new (rest old left) (rest new after) → new.fields ≡ old.fields → length new.bits ≡ length old.bits → HasTaken inputs text (rows ++ new.bits ∷ []) new after }
     ensures all { (inputs : List DataInput) (text : List ℕ) (rows : List (List Bool)) (reading : Reading) (left : Option (List ℕ)) → HasTaken inputs text rows reading left → IsAtEnd (rest reading left) → IsStimulus inputs text rows }
     ensures few { (inputs : List DataInput) (text : List ℕ) (rows : List (List Bool)) (reading : Reading) (left : Option (List ℕ)) → HasTaken inputs text rows reading left → length rows ≤ most_rows }
+{}
+
+/// A text is refused for one reason at most, and for none where it stands for rows, which are not more
+/// than may be.
+pub fn one_refusal()
+    ensures one { (inputs : List DataInput) (text : List ℕ) (why other : StimRefusalOf) → AreNames (names_of inputs) → IsRefused inputs text why → IsRefused inputs text other → why ≡ other }
+    ensures none { (inputs : List DataInput) (text : List ℕ) (rows : List (List Bool)) (why : StimRefusalOf) → AreNames (names_of inputs) → IsStimulus inputs text rows → length rows ≤ most_rows → IsRefused inputs text why → ⊥ }
+{}
+
+/// The names of a netlist's data inputs are names of inputs: none is empty, and no two are equal.
+pub fn inputs_have_names()
+    ensures { (net : NetlistOf) → IsFlat net → AreNames (names_of (data_inputs net)) }
 {}

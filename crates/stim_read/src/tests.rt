@@ -1,7 +1,10 @@
 ghost use Rattle.std.specs.Prelude.{◌≡◌, ◌≤◌, IfOk};
 ghost use Rattle.stim_read.specs.Stimulus.{AreNames, names_of};
 
-use crate::{DataInput, Stim, StimFault, StimStop, rows_are_one, rows_are_taken};
+use crate::{
+    DataInput, Stim, StimFault, StimStop, inputs_have_names, one_refusal, rows_are_one,
+    rows_are_taken,
+};
 use ila_base::{MemSource, Name, NoMemory, StimRefusal};
 use std::alloc::Global;
 use std::test::Fail;
@@ -114,4 +117,6 @@ fn texts_without_a_header(rt: HostRuntime) -> Result<(), Fail> {
 fn laws_hold() {
     rows_are_one();
     rows_are_taken();
+    one_refusal();
+    inputs_have_names();
 }

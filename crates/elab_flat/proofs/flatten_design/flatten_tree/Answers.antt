@@ -3,11 +3,14 @@ use Rattle.std.specs.Option.{option_and_then}
 use Rattle.elab_design.specs.Design.{Design}
 use Rattle.elab_unfold.specs.Parts.{IsWithin}
 use Rattle.elab_amounts.specs.Amounts.{count_of}
+use Rattle.net_core.specs.Netlist.{parts_of}
+use Rattle.flat_settle.specs.Refusals.{Settles}
+use Rattle.vlog_lex.specs.declared.token.NetFault.{NetFault}
 use Rattle.vlog_lex.specs.Cutting.{StopsFor}
 use Rattle.elab_design.specs.Limits.{IsElabFault}
 use Rattle.elab_flat.specs.Above.{IsFaultBefore, IsUnsettled}
 use Rattle.elab_flat.proofs.PortLaws.{item_at}
-use Rattle.elab_flat.proofs.FaultLaws.{IsKnown, has_clock, has_limits, is_within, refused_before, refused_after, err_then}
+use Rattle.elab_flat.proofs.FaultLaws.{IsKnown, has_clock, has_limits, is_within, refused_before, refused_after, err_then, ok_then}
 use Rattle.elab_flat.proofs.flatten_design.flatten_tree.Goals as goal
 use Rattle.elab_flat.proofs.flatten_design.flatten_tree.Goals.{After-fault_before, In-None}
 
@@ -64,3 +67,14 @@ returns-clause-refused c =
     err_then c.settled.result (StopsFor (IsUnsettled c.in_ok-raw-in-None.raw)) (StopsFor (IsElabFault d))
     (λ stop. refused_after d c.in_ok-raw-in-None.raw stop (has_clock d m c.count_of.result own none.0) (has_limits d m c.count_of.result own none.1) c.in_ok-raw-in-None.ensures)
     c.settled.ensures.refused
+
+pub returns-clause-accepted : goal.returns-clause-accepted
+returns-clause-accepted c =
+    let at = goal.at.returns-clause-accepted c in
+    let d = design at.After-fault_before in
+    let own = known at.After-fault_before in
+    let none = clear at.In-None in
+    let m = c.index-as_slice-top.result in
+    ok_then c.settled.result (λ flat. Settles c.in_ok-raw-in-None.raw (parts_of flat)) ((f : NetFault) → ¬ IsElabFault d f)
+    (λ flat settles fault. c.one_fault.ensures.none d c.in_ok-raw-in-None.raw (parts_of flat) fault c.requires.checked (has_clock d m c.count_of.result own none.0)
+    (has_limits d m c.count_of.result own none.1) c.in_ok-raw-in-None.ensures settles) c.settled.ensures.settled

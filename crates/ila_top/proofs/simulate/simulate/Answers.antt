@@ -3,8 +3,8 @@ use Rattle.std.proofs.KnownBytes.{Keeps-refl}
 use Rattle.stim_read.specs.declared.inputs.DataInput.{DataInput}
 use Rattle.stim_read.specs.Ports as ports
 use Rattle.ila_top.specs.Answers.{Streams}
-use Rattle.ila_top.specs.Rows.{BeginsIfTold, HasRowsIfTold, RefusesIfTold}
-use Rattle.ila_top.proofs.Taken.{rows_begin, rows_all, rows_refused, only_behind, behind_header, answer_refused, answer_begin, rose_since}
+use Rattle.ila_top.specs.Rows.{BeginsIfTold, HasRowsIfTold, RefusesIfTold, ReadsRowsIfTold}
+use Rattle.ila_top.proofs.Taken.{rows_begin, rows_read, rows_all, rows_refused, only_behind, behind_header, answer_refused, answer_begin, rose_since}
 use Rattle.ila_top.proofs.simulate.simulate.Goals as goal
 
 pub returns-in-Err-clause-answers : goal.returns-in-Err-clause-answers
@@ -44,15 +44,15 @@ pub returns-in-Err-ReadFault-clause-answers : goal.returns-in-Err-ReadFault-clau
 returns-in-Err-ReadFault-clause-answers g c = λ d top checked is_top own.
     let same = c.inputs_agree.ensures d c.args.flat.now top checked c.requires.flat own is_top in
     let fault = c.in-Err-ReadFault.ensures.read_fault (ap Err c.in-Err-ReadFault.field-0-is) in
-    let told : BeginsIfTold (ports.data_inputs c.args.flat.now) (g.S.Source.left c.args.stimulus.now) fault.0 =
-    rows_begin (ports.data_inputs c.args.flat.now) (g.S.Source.left c.begin.new.stimulus) c.in-Ok-begin.stim fault.0 (g.S.Source.left c.args.stimulus.now)
-    _ _ c.in-Ok-begin.ensures.begun fault.2.taken in
-    let I : List DataInput → Type 0 = λ inputs. BeginsIfTold inputs (g.S.Source.left c.args.stimulus.now) fault.0 in (
+    let told : ReadsRowsIfTold (ports.data_inputs c.args.flat.now) (g.S.Source.left c.args.stimulus.now) fault.0 (g.S.Source.left c.show.new.source) =
+    rows_read (ports.data_inputs c.args.flat.now) (g.S.Source.left c.begin.new.stimulus) c.in-Ok-begin.stim fault.0 (g.S.Source.left c.args.stimulus.now)
+    _ _ c.in-Ok-begin.ensures.begun fault.3.taken fault.2 in
+    let I : List DataInput → Type 0 = λ inputs. ReadsRowsIfTold inputs (g.S.Source.left c.args.stimulus.now) fault.0 (g.S.Source.left c.show.new.source) in (
       rose_since _ _ _ c.begin.ensures.later fault.1,
       inr (record {
         rows = fault.0;
         taken = subst I same told;
-        shown = c.shows_design.ensures.whole d c.args.flat.now checked c.requires.flat own fault.0 fault.2.stands.history fault.2.stands.one _ _ fault.3;
+        shown = c.shows_design.ensures.whole d c.args.flat.now checked c.requires.flat own fault.0 fault.3.stands.history fault.3.stands.one _ _ fault.4;
       }),
     )
 
