@@ -90,11 +90,11 @@ module _ (inputs : List DataInput) (text : List ℕ) (named : AreNames (names_of
 
   behind_one : (rows others : List (List Bool)) (why other : StimRefusal) → IsRefusedBehind inputs text rows why → IsRefusedBehind inputs text others other → why ≡ other
   behind_one rows others why other first second = elim (cases_lt (length rows) (length others)) [
-    inl fewer → absurd (omega (arith, fewer, not_among rows others why second.order (second.line ∷ second.more) first second.begins fewer, few others second.order second.line other second.refuses)),
-    inr least → elim (cases_lt (length others) (length rows)) [
-      inl fewer → absurd (omega (arith, fewer, not_among others rows other first.order (first.line ∷ first.more) second first.begins fewer, few rows first.order first.line why first.refuses)),
-      inr most → same_behind (omega (arith, least, most)),
-    ],
+    inl fewer ↦ absurd (omega (arith, fewer, not_among rows others why second.order (second.line ∷ second.more) first second.begins fewer, few others second.order second.line other second.refuses))
+    | inr least ↦ elim (cases_lt (length others) (length rows)) [
+      inl fewer ↦ absurd (omega (arith, fewer, not_among others rows other first.order (first.line ∷ first.more) second first.begins fewer, few rows first.order first.line why first.refuses))
+      | inr most ↦ same_behind (omega (arith, least, most))
+    ]
   ]
     where
       few : (rows : List (List Bool)) (order line : List ℕ) (why : StimRefusal)
@@ -121,7 +121,7 @@ module _ (inputs : List DataInput) (text : List ℕ) (named : AreNames (names_of
   one_refusal (Limit n) (Limit m) first second = behind_one first.0 second.0 (Limit n) (Limit m) first.1 second.1
 
   -- a text that stands for rows begins with them
-  front_of : (rows : List (List Bool)) → (own : IsStimulus inputs text rows) → BeginsWith inputs text own.order rows []
+  abbrev front_of : (rows : List (List Bool)) → (own : IsStimulus inputs text rows) → BeginsWith inputs text own.order rows []
   front_of rows own = record {
     header = own.header;
     taken = own.body;
@@ -132,14 +132,14 @@ module _ (inputs : List DataInput) (text : List ℕ) (named : AreNames (names_of
 
   no_behind : (rows others : List (List Bool)) (why : StimRefusal) → IsStimulus inputs text rows → length rows ≤ most_rows → IsRefusedBehind inputs text others why → ⊥
   no_behind rows others why own few behind = elim (cases_lt (length others) (length rows)) [
-    inl fewer → omega (arith, fewer, few, not_among others rows why own.order [] behind (front_of rows own) fewer),
-    inr most → omega (arith, most, longer),
+    inl fewer ↦ omega (arith, fewer, few, not_among others rows why own.order [] behind (front_of rows own) fewer)
+    | inr most ↦ omega (arith, most, longer)
   ]
     where
       longer : length others < length rows
       longer =
           let first = behind.begins in
-          let same = same_lines behind.order own.order others rows (behind.line ∷ behind.more) [] first (front_of rows own) in
+          let same : first.taken ++ behind.line ∷ behind.more ≡ own.body ++ [] = same_lines behind.order own.order others rows (behind.line ∷ behind.more) [] first (front_of rows own) in
           omega (arith, ap (λ xs. length xs) same, length-append first.taken (behind.line ∷ behind.more), length-append own.body [],
           row_count (fields_of (widths_of inputs) behind.order) (sum (widths_of inputs)) first.taken others first.each,
           row_count (fields_of (widths_of inputs) own.order) (sum (widths_of inputs)) own.body rows own.each)
