@@ -4,3 +4,5 @@ pub mod Cycles
 pub mod Lines
 pub mod Refused
 pub mod Taken
+pub mod OneText
+pub mod OneAnswer

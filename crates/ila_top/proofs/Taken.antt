@@ -12,13 +12,14 @@ use Rattle.stim_read.specs.declared.inputs.Field.{Field}
 use Rattle.stim_read.specs.Stimulus.{widths_of, fields_of}
 use Rattle.stim_read.specs.Reading.{Reading, rest, Refuses, RefusesLine, IsSomeRow, Begins as HasBegun}
 use Rattle.stim_read.specs.Streams.{Unbroken, rest_of}
+use Rattle.stim_read.specs.Refused.{IsRefusedBehind}
 use Rattle.stim_read.specs.RowLaws.{HasTaken, begun_taken, taken_all}
 use Rattle.elab_design.specs.Design.{Design}
-use Rattle.ila_session.specs.Shown.{TakesRows, ReadsOnlyPart, RefusesBehind as IsRefusedBehind}
+use Rattle.ila_session.specs.Shown.{TakesRows, ReadsOnlyPart, RefusesBehind}
 use Rattle.design_text.specs.DesignText.{design_inputs, ShowsDesign}
 use Rattle.ila_top.specs.declared.status.Status.{Status}
 use Rattle.ila_top.specs.declared.status.Status.TheVariants.{Stimulus, ReadFault, NoMemory}
-use Rattle.ila_top.specs.Rows.{BeginsIfTold, HasRowsIfTold, RefusesIfTold, ReadsRowsIfTold, RefusesBehind}
+use Rattle.ila_top.specs.Rows.{BeginsIfTold, HasRowsIfTold, RefusesIfTold, ReadsRowsIfTold}
 use Rattle.ila_top.specs.Answers.{Streams, SimAnswer, BeginAnswer, LeavesTrace}
 
 module _ (inputs : List DataInput) (start : Option (List ℕ)) (reading : Reading) (rows : List (List Bool)) where
@@ -55,7 +56,7 @@ module _ (inputs : List DataInput) (start : Option (List ℕ)) (reading : Readin
       (taken_all inputs text rows after later has over, has.few)
 
   refused_at : (text : List ℕ) (now : Reading) (later : Option (List ℕ)) (why : StimRefusal) → HasTaken inputs text rows now later → Refuses now (rest now later) why
-      → RefusesBehind inputs text rows why
+      → IsRefusedBehind inputs text rows why
   refused_at text now later why has refuses =
       let given = subst (λ left. Refuses now left why) has.told refuses in
       let F : List Field → Type 0 = λ fs. RefusesLine now.taken (IsSomeRow fs (length now.bits) given.0) why in
@@ -75,7 +76,7 @@ module _ (inputs : List DataInput) (start : Option (List ℕ)) (reading : Readin
         refuses = subst C has.taken (subst S has.size (subst F has.fields given.3));
       }
 
-  pub rows_refused : (text : Option (List ℕ)) (why : StimRefusal) → HasBegun inputs text start reading → IsRefusedBehind reading start rows why → RefusesIfTold inputs text rows why
+  pub rows_refused : (text : Option (List ℕ)) (why : StimRefusal) → HasBegun inputs text start reading → RefusesBehind reading start rows why → RefusesIfTold inputs text rows why
   rows_refused None why begun behind = tt
   rows_refused (Some text) why begun behind =
       refused_at text behind.reading behind.later why (behind.taken inputs text (begun_taken inputs text reading start begun)) behind.refuses
@@ -90,12 +91,12 @@ no_header reading left Header refuses is = none left refuses
 no_header reading left (Line n) refuses is = absurd (cc is)
 no_header reading left (Limit n) refuses is = absurd (cc is)
 
-pub behind_header : (before : Reading) (start : Option (List ℕ)) (rows : List (List Bool)) (why : StimRefusal) → IsRefusedBehind before start rows why → why ≡ Header → ⊥
+pub behind_header : (before : Reading) (start : Option (List ℕ)) (rows : List (List Bool)) (why : StimRefusal) → RefusesBehind before start rows why → why ≡ Header → ⊥
 behind_header before start rows why behind = no_header behind.reading (rest behind.reading behind.later) why behind.refuses
 
 -- a reader that had refused nothing refuses a line
 pub only_behind : (before : Reading) (start : Option (List ℕ)) (rows : List (List Bool)) (why : StimRefusal) → before.refused ≡ None
-    → ((before.refused ≡ Some why) ⊎ IsRefusedBehind before start rows why) → IsRefusedBehind before start rows why
+    → ((before.refused ≡ Some why) ⊎ RefusesBehind before start rows why) → RefusesBehind before start rows why
 only_behind before start rows why none (inl some) = absurd (let e : None ≡ Some why = sym none ∙ some in cc e)
 only_behind before start rows why none (inr behind) = behind
 

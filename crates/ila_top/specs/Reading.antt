@@ -35,10 +35,11 @@ pub record StandsForTree (text : List ℕ) (tree : Tree) : Type 0 where
   pub cut : IsReading text tokens None
   pub read_as : IsReadAs text tokens tree
 
--- The text stands for the tree of a checked design, and this is its flat netlist.
+-- The text stands for the tree of a checked design that can be unfolded, and this is its flat netlist.
 pub record IsNetOf (text : List ℕ) (d : Design) (net : Netlist) : Type 0 where
   pub stands_for : StandsForTree text d.tree
   pub checked : IsChecked d.tree d.top
+  pub unfolds : (fault : NetFault) → ¬ IsElabFault d fault
   pub flat : IsFlat net
   pub elaborates : Elaborates d net
 

@@ -5,6 +5,7 @@
 mod code;
 mod ending;
 mod form;
+mod laws;
 mod line;
 mod load;
 mod netlist;
@@ -14,6 +15,7 @@ mod status;
 mod top;
 
 pub use ending::{exit_code, report};
+pub use laws::one_answer;
 pub use status::Status;
 pub use top::ila;
 

@@ -1,8 +1,11 @@
-ghost use Rattle.std.specs.Prelude.{◌≡◌, ◌≤◌, [], map, Some, string_bytes};
+ghost use Rattle.std.specs.Prelude.{◌≡◌, ◌≤◌, ◌⊎◌, [], map, Some, string_bytes};
 ghost use Rattle.ila_top.specs.Answers.{SimWords, sim_words, Cause, IsClear, IsDone, Stands, IsReported};
+ghost use Rattle.ila_top.specs.Sentences.{IsTold, Sentence, IsHindrance, AreSame};
+ghost use Rattle.ila_top.specs.declared.status.Status.{Status as StatusOf};
 
 use crate::ending::report;
 use crate::form::sim_of;
+use crate::laws::one_answer;
 use crate::sim::sim;
 use crate::status::Status;
 use ila_base::{Shelf, Sink, Source};
@@ -20,6 +23,10 @@ fn answer<H: Shelf, S: Source, K: Sink>(
         (record { files = H.files shelf.old; shelf_faults = H.faults shelf.old; left = S.left stimulus.old; read_faults = S.faults stimulus.old; written = K.written trace.old; write_faults = K.faults trace.old })
         (record { files = H.files shelf.new; shelf_faults = H.faults shelf.new; left = S.left stimulus.new; read_faults = S.faults stimulus.new; written = K.written trace.new; write_faults = K.faults trace.new })
         result }
+    ensures comes { (sim : SimWords) (status : StatusOf) → sim_words (map string_bytes words.now) ≡ Some sim
+        → IsTold (record { files = H.files shelf.old; shelf_faults = H.faults shelf.old; left = S.left stimulus.old; read_faults = S.faults stimulus.old; written = K.written trace.old; write_faults = K.faults trace.old })
+        → Sentence sim (record { files = H.files shelf.old; shelf_faults = H.faults shelf.old; left = S.left stimulus.old; read_faults = S.faults stimulus.old; written = K.written trace.old; write_faults = K.faults trace.old }) status
+        → IsHindrance result ⊎ AreSame status result }
     ensures complete { (sim : SimWords) → sim_words (map string_bytes words.now) ≡ Some sim → IsClear sim
         (record { files = H.files shelf.old; shelf_faults = H.faults shelf.old; left = S.left stimulus.old; read_faults = S.faults stimulus.old; written = K.written trace.old; write_faults = K.faults trace.old })
         (record { files = H.files shelf.new; shelf_faults = H.faults shelf.new; left = S.left stimulus.new; read_faults = S.faults stimulus.new; written = K.written trace.new; write_faults = K.faults trace.new })
@@ -29,6 +36,7 @@ fn answer<H: Shelf, S: Source, K: Sink>(
         (record { files = H.files shelf.new; shelf_faults = H.faults shelf.new; left = S.left stimulus.new; read_faults = S.faults stimulus.new; written = K.written trace.new; write_faults = K.faults trace.new })
         result }
 {
+    one_answer();
     match sim_of(words) {
         Some(words) => sim(alloc, &words, shelf, stimulus, trace),
         None => Status::Usage,
@@ -51,6 +59,13 @@ pub fn ila<H: Shelf, S: Source, K: Sink, E: Sink>(
         (record { files = H.files shelf.old; shelf_faults = H.faults shelf.old; left = S.left stimulus.old; read_faults = S.faults stimulus.old; written = K.written trace.old; write_faults = K.faults trace.old })
         (record { files = H.files shelf.new; shelf_faults = H.faults shelf.new; left = S.left stimulus.new; read_faults = S.faults stimulus.new; written = K.written trace.new; write_faults = K.faults trace.new })
         result }
+    // Where the files and the stimulus are told, the answer whose sentence holds comes, but for a fault or
+    // want of memory: Done where the netlist is accepted and the stimulus has rows alone, and each refusal
+    // where its sentence holds. Of several cycles any may be named.
+    ensures comes { (sim : SimWords) (status : StatusOf) → sim_words (map string_bytes words.now) ≡ Some sim
+        → IsTold (record { files = H.files shelf.old; shelf_faults = H.faults shelf.old; left = S.left stimulus.old; read_faults = S.faults stimulus.old; written = K.written trace.old; write_faults = K.faults trace.old })
+        → Sentence sim (record { files = H.files shelf.old; shelf_faults = H.faults shelf.old; left = S.left stimulus.old; read_faults = S.faults stimulus.old; written = K.written trace.old; write_faults = K.faults trace.old }) status
+        → IsHindrance result ⊎ AreSame status result }
     // Where the words are those of `sim`, no sentence of a refusal holds and no count has risen, it is
     // done, or memory wasn't found.
     ensures complete { (sim : SimWords) → sim_words (map string_bytes words.now) ≡ Some sim → IsClear sim

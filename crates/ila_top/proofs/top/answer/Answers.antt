@@ -3,6 +3,7 @@ use Rattle.std.specs.Prelude.{string_bytes}
 use Rattle.ila_top.specs.Answers.{Outside, SimWords, Cause}
 use Rattle.ila_top.proofs.Accepted.{caused}
 use Rattle.ila_top.proofs.Complete.{complete}
+use Rattle.ila_top.proofs.OneAnswer.{comes}
 use Rattle.ila_top.proofs.top.answer.Goals as goal
 
 pub returns-in-Some-clause-cause : goal.returns-in-Some-clause-cause
@@ -20,3 +21,11 @@ returns-in-Some-clause-complete g c = λ own is clear.
     let cause : Cause (map string_bytes c.args.words.now) before after c.sim.result =
     caused (map string_bytes c.args.words.now) sim before after c.sim.result c.in-Some.ensures c.sim.ensures.cause in
     complete (map string_bytes c.args.words.now) own before after c.sim.result cause is clear
+
+pub returns-in-Some-clause-comes : goal.returns-in-Some-clause-comes
+returns-in-Some-clause-comes g c = λ own status is told holds.
+    let sim : SimWords = record { netlist = c.in-Some.words.netlist.now; top = c.in-Some.words.top.now; clock = c.in-Some.words.clock.now } in
+    let before : Outside = record { files = g.H.Shelf.files c.args.shelf.now; shelf_faults = g.H.Shelf.faults c.args.shelf.now; left = g.S.Source.left c.args.stimulus.now; read_faults = g.S.Source.faults c.args.stimulus.now; written = g.K.Sink.written c.args.trace.now; write_faults = g.K.Sink.faults c.args.trace.now } in
+    let after : Outside = record { files = g.H.Shelf.files c.sim.new.shelf; shelf_faults = g.H.Shelf.faults c.sim.new.shelf; left = g.S.Source.left c.sim.new.stimulus; read_faults = g.S.Source.faults c.sim.new.stimulus; written = g.K.Sink.written c.sim.new.trace; write_faults = g.K.Sink.faults c.sim.new.trace } in
+    comes c.one_answer.ensures (map string_bytes c.args.words.now) own before is told status holds after c.sim.result
+    (caused (map string_bytes c.args.words.now) sim before after c.sim.result c.in-Some.ensures c.sim.ensures.cause)

@@ -1,0 +1,29 @@
+//! What the sentences of the answers say of one another.
+
+ghost use Rattle.ila_top.specs.Answers.{Outside, SimWords};
+ghost use Rattle.ila_top.specs.Sentences.{IsTold, Sentence, AreSame};
+ghost use Rattle.ila_top.specs.declared.status.Status.{Status as StatusOf};
+
+use design_text::inputs_agree;
+use elab_design::{one_fault, one_flat};
+use stim_read::{inputs_have_names, one_refusal};
+use vlog_check::one_refusal as one_finding;
+use vlog_lex::one_reading;
+use vlog_parse::{one_refusal as one_syntax_refusal, one_tree};
+use vlog_places::one_refusal_of_text;
+
+/// Where the files and the stimulus are told, the sentence of one answer holds at most.
+pub fn one_answer()
+    ensures { (sim : SimWords) (before : Outside) (one : StatusOf) (other : StatusOf) → IsTold before → Sentence sim before one → Sentence sim before other → AreSame one other }
+{
+    one_reading();
+    one_tree();
+    one_syntax_refusal();
+    one_refusal_of_text();
+    one_finding();
+    one_fault();
+    one_flat();
+    inputs_agree();
+    inputs_have_names();
+    one_refusal();
+}
