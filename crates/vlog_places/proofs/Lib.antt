@@ -1,0 +1,7 @@
+mod RisingLaws
+mod Standing
+mod ExpressionPlaces
+mod ItemPlaces
+mod DesignPlaces
+mod SiteLaws
+mod OwnLaws

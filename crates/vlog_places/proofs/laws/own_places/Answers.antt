@@ -1,0 +1,5 @@
+use Rattle.vlog_places.proofs.OwnLaws as laws
+use Rattle.vlog_places.proofs.laws.own_places.Goals as goal
+
+pub returns : goal.returns
+returns c = laws.own_places
