@@ -6,7 +6,7 @@ ghost use Rattle.net_core.specs.Netlist.{Netlist};
 ghost use Rattle.clock_sim.specs.Plan.{IsPlan, IsWithin, HasPinsWithin, AreWithin, IsSettledTo, HasConstants, IsPlaced, HasRows, AdvancesRow, WritesRow, IsAdvancedTo};
 
 use crate::bits::Bits;
-use crate::evaluate::{next_bit, output, read, row_number};
+use crate::evaluate::{lut_output, next_bit, output, read, row_number};
 use crate::plan::{Formula, Row};
 use net_core::CellKind;
 
@@ -30,8 +30,14 @@ fn formula_bit(values: &[bool], pins: &[u32], formula: &Formula, stored: &Bits) 
     ensures { result ≡ kinds.output formula.now.kind (read_all values.now (slice_range pins.now formula.now.first formula.now.last)) (λ _. bit_at_place stored.now formula.now.base) formula.now.out }
 {
     let own = &pins[formula.first..formula.last];
-    let kept = stored.get(formula.base);
-    output(formula.kind, values, own, kept, formula.out as usize)
+    match formula.kind {
+        // Most cells are LUTs, and a LUT stores nothing.
+        CellKind::Lut { n: _, init } => lut_output(init, values, own),
+        kind => {
+            let kept = stored.get(formula.base);
+            output(kind, values, own, kept, formula.out as usize)
+        }
+    }
 }
 
 /// Puts the row of bits on the nets of the inputs.
