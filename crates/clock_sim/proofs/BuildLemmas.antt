@@ -12,8 +12,10 @@ use Rattle.net_core.specs.CellTable.{content_size, IsAllowed}
 use Rattle.net_core.proofs.ListLemmas.{slice_get_append}
 use Rattle.net_core.proofs.NumberLemmas.{take_one_more}
 use Rattle.clock_sim.specs.declared.plan.Row.{Row}
+use Rattle.clock_sim.specs.declared.plan.Slot.{Slot}
+use Rattle.clock_sim.specs.declared.plan.Formula.{Formula}
 use Rattle.clock_sim.specs.Reading.{place_of, places_of}
-use Rattle.clock_sim.specs.Plan.{base_of, AreRowsTo}
+use Rattle.clock_sim.specs.Plan.{base_of, AreRowsTo, AreFormulasTo}
 use Rattle.clock_sim.proofs.AdvanceLemmas.{base_more}
 
 size_small : (kind : CellKind) → IsAllowed kind → content_size kind ≤ 2 ^ 27
@@ -122,6 +124,51 @@ rows_more cells i cell places grown rows more base next row at so_far grows push
             kind ∙ ap (λ (o : Cell). o.kind) is_cell,
             ap (λ xs. slice_range xs row.first row.last) grows ∙ range_new places (places_of cell.ins) row.first row.last first (last ∙ size) ∙ ap (λ (o : Cell). places_of o.ins) is_cell,
             at_base ∙ so_far.next_base ∙ ap (base_of cells) (sym place),
+            omega (arith, first, last, size),
+            omega (arith, last),
+          ))
+    ]
+
+pub formulas_none : (pins : List ℕ) (rows : List Row) (slots : List Slot) (places : List ℕ) (formulas : List Formula) → formulas ≡ [] → AreFormulasTo pins rows slots 0 places formulas
+formulas_none pins rows slots places formulas none = record {
+  size = ap length none;
+  each = λ j slot row formula at on there. absurd (none_at j formula (sym (ap (λ fs. slice_get fs j) none) ∙ there));
+}
+  where
+    none_at : (j : ℕ) (formula : Formula) → slice_get {X = Formula} [] j ≡ Some formula → ⊥
+    none_at j formula at = cc at
+
+pub formulas_more : (pins : List ℕ) (rows : List Row) (slots : List Slot) (i : ℕ) (slot : Slot) (row : Row) (places grown : List ℕ) (formulas more : List Formula) (formula : Formula)
+    → slice_get slots i ≡ Some slot → slice_get rows slot.cell ≡ Some row → AreFormulasTo pins rows slots i places formulas
+    → grown ≡ places ++ slice_range pins row.first row.last → more ≡ formulas ++ formula ∷ []
+    → formula.kind ≡ row.kind → formula.first ≡ length places → formula.last ≡ length grown → formula.base ≡ row.base → formula.out ≡ slot.out → formula.net ≡ slot.net
+    → AreFormulasTo pins rows slots (i + 1) grown more
+formulas_more pins rows slots i slot row places grown formulas more formula at row_at so_far grows pushed kind first last base on_pin on_net = record {
+  size = ap length pushed ∙ (let e = length-append formulas (formula ∷ []) in omega (arith, e, so_far.size));
+  each = each;
+}
+  where
+    size : length grown ≡ length places + length (slice_range pins row.first row.last)
+    size = ap length grows ∙ length-append places (slice_range pins row.first row.last)
+
+    each : (j : ℕ) (s : Slot) (r : Row) (f : Formula) → slice_get slots j ≡ Some s → slice_get rows s.cell ≡ Some r → slice_get more j ≡ Some f
+        → (f.kind ≡ r.kind) × (slice_range grown f.first f.last ≡ slice_range pins r.first r.last) × (f.base ≡ r.base) × (f.out ≡ s.out) × (f.net ≡ s.net) × (f.first ≤ f.last) × (f.last ≤ length grown)
+    each j s r f there on own = elim (slice_get_append formulas (formula ∷ []) j f (sym (ap (λ fs. slice_get fs j) pushed) ∙ own)) [
+      | inl here ↦ (
+          let before = so_far.each j s r f there on here in
+          (before.0, ap (λ xs. slice_range xs f.first f.last) grows ∙ range_stays places (slice_range pins row.first row.last) f.first f.last before.5 before.6 ∙ before.1, before.2, before.3, before.4, before.5, omega (arith, before.6, size)))
+      | inr later ↦ (
+          let first_one : later.0 ≡ 0 = omega (arith, slice_get_within (formula ∷ []) later.0 f later.2) in
+          let is_formula : formula ≡ f = same_Some _ _ (sym (ap (slice_get (formula ∷ [])) first_one) ∙ later.2) in
+          let place : j ≡ i = omega (arith, later.1, first_one, so_far.size) in
+          let is_slot : slot ≡ s = same_Some _ _ (sym at ∙ ap (slice_get slots) (sym place) ∙ there) in
+          let is_row : row ≡ r = same_Some _ _ (sym row_at ∙ ap (λ (o : Slot). slice_get rows o.cell) is_slot ∙ on) in
+          subst (λ (f : Formula). (f.kind ≡ r.kind) × (slice_range grown f.first f.last ≡ slice_range pins r.first r.last) × (f.base ≡ r.base) × (f.out ≡ s.out) × (f.net ≡ s.net) × (f.first ≤ f.last) × (f.last ≤ length grown)) is_formula (
+            kind ∙ ap (λ (o : Row). o.kind) is_row,
+            ap (λ xs. slice_range xs formula.first formula.last) grows ∙ range_new places (slice_range pins row.first row.last) formula.first formula.last first (last ∙ size) ∙ ap (λ (o : Row). slice_range pins o.first o.last) is_row,
+            base ∙ ap (λ (o : Row). o.base) is_row,
+            on_pin ∙ ap (λ (o : Slot). o.out) is_slot,
+            on_net ∙ ap (λ (o : Slot). o.net) is_slot,
             omega (arith, first, last, size),
             omega (arith, last),
           ))

@@ -12,24 +12,25 @@ use Rattle.net_core.proofs.InputLemmas.{inputs_differ}
 use Rattle.net_core.proofs.PartsLemmas.{filter_some}
 use Rattle.clock_sim.specs.declared.plan.Row.{Row}
 use Rattle.clock_sim.specs.declared.plan.Slot.{Slot}
+use Rattle.clock_sim.specs.declared.plan.Formula.{Formula}
 use Rattle.clock_sim.specs.Reading.{net_bit}
 use Rattle.clock_sim.specs.Plan.{base_of, stored_bit, IsPlan, IsWithin, AreWithin, HasConstants, IsPlaced, IsSettledTo, HasRows, IsAdvancedTo, KeepsPlan}
 
-module _ (net : Netlist) (inputs pins : List ℕ) (rows : List Row) (slots : List Slot) (old : List Bool) (stored : List Bool) (keeps : KeepsPlan net inputs pins rows slots old stored) where
+module _ (net : Netlist) (inputs pins : List ℕ) (rows : List Row) (places : List ℕ) (formulas : List Formula) (old : List Bool) (stored : List Bool) (keeps : KeepsPlan net inputs pins rows places formulas old stored) where
   module _ (row placed settled after : List Bool) (size : length row ≡ length (input_nets net)) (puts : IsPlaced inputs row (length inputs) old placed)
-      (settles : (net : Netlist) (rank : ℕ → ℕ) → IsPlan net rank pins rows slots → IsSettledTo net slots stored (length slots) placed settled)
+      (settles : (net : Netlist) (rank : ℕ → ℕ) (slots : List Slot) → IsPlan net rank slots places formulas → IsSettledTo net slots stored (length slots) placed settled)
       (advances : (net : Netlist) → HasRows net settled pins rows → IsAdvancedTo net settled (length rows) stored after) where
-    done : IsSettledTo net slots stored (length slots) placed settled
-    done = settles net keeps.rank keeps.plan
+    done : IsSettledTo net keeps.slots stored (length keeps.slots) placed settled
+    done = settles net keeps.rank keeps.slots keeps.plan
 
     constants : HasConstants settled
     constants = record { zero_place = done.zero_place; one_place = done.one_place }
 
     next : IsAdvancedTo net settled (length rows) stored after
-    next = advances net (record { size = keeps.plan.size; row_each = keeps.plan.row_each; constants = constants })
+    next = advances net (record { size = keeps.row_count; row_each = keeps.row_each; constants = constants })
 
     -- an input's net is on no slot
-    no_slot : (i n : ℕ) → slice_get (input_nets net) i ≡ Some n → (j : ℕ) (slot : Slot) → slice_get slots j ≡ Some slot → slot.net ≢ n
+    no_slot : (i n : ℕ) → slice_get (input_nets net) i ≡ Some n → (j : ℕ) (slot : Slot) → slice_get keeps.slots j ≡ Some slot → slot.net ≢ n
     no_slot i n at j slot there is =
         let own = filter_some _ (input_bits (parts_of net)) i n at in
         let drives = keeps.plan.slot_each.sound j slot there in
@@ -58,24 +59,27 @@ module _ (net : Netlist) (inputs pins : List ℕ) (rows : List Row) (slots : Lis
             get_or_from_slice_get (map (net_bit settled) (input_nets net)) i (net_bit settled (get_or (input_nets net) i 0)) d (slice_get-map (net_bit settled) (input_nets net) i ∙ ap (option_map (net_bit settled)) at)
             ∙ input_bit i (get_or (input_nets net) i 0) (get_or row i d) at own
 
-        own_output : (c : ℕ) (cell : Cell) (k n : ℕ) → Drives net.cells c cell k n → (j : ℕ) (slot : Slot) → slice_get slots j ≡ Some slot → slot.cell ≡ c → slot.out ≡ k → slot.net ≡ n
+        own_output : (c : ℕ) (cell : Cell) (k n : ℕ) → Drives net.cells c cell k n → (j : ℕ) (slot : Slot) → slice_get keeps.slots j ≡ Some slot → slot.cell ≡ c → slot.out ≡ k → slot.net ≡ n
             → net_bit settled n ≡ output cell.kind (input_pins (net_bit settled) cell) (stored_bit net.cells stored c) k
         own_output c cell k n drives j slot at same_cell same_out same_net =
             sym (ap (net_bit settled) same_net)
-            ∙ done.done j slot cell (slice_get_within slots j slot at) at (ap (slice_get net.cells) same_cell ∙ drives.at)
+            ∙ done.done j slot cell (slice_get_within keeps.slots j slot at) at (ap (slice_get net.cells) same_cell ∙ drives.at)
             ∙ ap (λ (d : ℕ). output cell.kind (input_pins (net_bit settled) cell) (stored_bit net.cells stored d) slot.out) same_cell
             ∙ ap (output cell.kind (input_pins (net_bit settled) cell) (stored_bit net.cells stored c)) same_out
 
     is_next : IsNext net (net_bit settled) (stored_bit net.cells stored) (stored_bit net.cells after)
-    is_next c cell i at within = next.next c cell i (omega (arith, slice_get_within net.cells c cell at, keeps.plan.size)) at within
+    is_next c cell i at within = next.next c cell i (omega (arith, slice_get_within net.cells c cell at, keeps.row_count)) at within
 
-    pub keeps_after : KeepsPlan net inputs pins rows slots settled after
+    pub keeps_after : KeepsPlan net inputs pins rows places formulas settled after
     keeps_after = record {
       rank = keeps.rank;
+      slots = keeps.slots;
       plan = keeps.plan;
+      row_count = keeps.row_count;
+      row_each = keeps.row_each;
       input_each = keeps.input_each;
       within = subst (λ (n : ℕ). IsWithin pins rows n) (sym next.size) keeps.within;
-      slots_within = subst (λ (n : ℕ). AreWithin pins rows slots n) (sym (done.size ∙ puts.size)) keeps.slots_within;
+      formulas_within = subst (λ (n : ℕ). AreWithin places formulas n) (sym (done.size ∙ puts.size)) keeps.formulas_within;
       inputs_within = λ i n at. omega (arith, keeps.inputs_within i n at, done.size, puts.size);
       constants = constants;
     }
@@ -84,10 +88,10 @@ module _ (net : Netlist) (inputs pins : List ℕ) (rows : List Row) (slots : Lis
     stands_after history stands = stands_next net keeps.plan.flat keeps.rank keeps.plan.ranked (net_bit old) (stored_bit net.cells stored) history row (net_bit settled) (stored_bit net.cells after) stands is_settled is_next
 
 -- the stored bit of a cell is within the bits of all
-pub stored_within : (net : Netlist) (inputs pins : List ℕ) (rows : List Row) (slots : List Slot) (values stored : List Bool) → KeepsPlan net inputs pins rows slots values stored
+pub stored_within : (net : Netlist) (inputs pins : List ℕ) (rows : List Row) (places : List ℕ) (formulas : List Formula) (values stored : List Bool) → KeepsPlan net inputs pins rows places formulas values stored
     → (c index : ℕ) (cell : Cell) (row : Row) → slice_get net.cells c ≡ Some cell → slice_get rows c ≡ Some row → index < content_size cell.kind
     → (row.base + index < length stored) × (row.base ≡ base_of net.cells c)
-stored_within net inputs pins rows slots values stored keeps c index cell row at there low =
-    let own = keeps.plan.row_each c cell row at there in
+stored_within net inputs pins rows places formulas values stored keeps c index cell row at there low =
+    let own = keeps.row_each c cell row at there in
     let size : content_size row.kind ≡ content_size cell.kind = ap content_size own.kind in
     (omega (arith, keeps.within.bases c row there, size, low), own.base)

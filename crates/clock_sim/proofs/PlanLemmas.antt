@@ -17,8 +17,9 @@ use Rattle.net_core.proofs.PartsLemmas.{filter_some, input_of, input_within, rea
 use Rattle.net_core.proofs.RunLemmas.{stands_none}
 use Rattle.clock_sim.specs.declared.plan.Row.{Row}
 use Rattle.clock_sim.specs.declared.plan.Slot.{Slot}
+use Rattle.clock_sim.specs.declared.plan.Formula.{Formula}
 use Rattle.clock_sim.specs.Reading.{place_of, net_bit, HasPins, HasMemoryPins}
-use Rattle.clock_sim.specs.Plan.{stored_bit, AreRowsTo, AreSlots, HasConstants, HasRowFor, IsStartTo, KeepsPlan}
+use Rattle.clock_sim.specs.Plan.{stored_bit, AreRowsTo, AreFormulasTo, AreSlots, IsFormula, HasConstants, HasPinsWithin, IsStartTo, KeepsPlan}
 use Rattle.clock_sim.proofs.AdvanceLemmas.{there_is, base_apart}
 use Rattle.clock_sim.proofs.BuildLemmas.{bases_fit}
 
@@ -72,6 +73,20 @@ fewer_pins : (cells : List Cell) → sum_by (λ (cell : Cell). length cell.ins) 
 fewer_pins [] = omega arith
 fewer_pins (cell ∷ cells) = omega (arith, fewer_pins cells, sum_by-cons (λ (cell : Cell). length cell.ins) cell cells, sum_by-cons pin_count cell cells)
 
+-- the rows of all cells have their pins in the list
+pub rows_range : (cells : List Cell) (pins : List ℕ) (rows : List Row) (base c : ℕ) (row : Row) → AreRowsTo cells (length cells) pins rows base → slice_get rows c ≡ Some row → (row.first ≤ row.last) × (row.last ≤ length pins)
+rows_range cells pins rows base c row told at =
+    let cell = there_is cells c (omega (arith, slice_get_within rows c row at, told.size)) in
+    let each = told.each c cell.0 row cell.1 at in
+    (each.3, each.4)
+
+-- each slot's cell has a row
+pub slot_has_row : (net : Netlist) (rank : ℕ → ℕ) (pins : List ℕ) (rows : List Row) (slots : List Slot) (base j : ℕ) (slot : Slot) → AreRowsTo net.cells (length net.cells) pins rows base → AreSlots net rank slots → slice_get slots j ≡ Some slot
+    → slot.cell < length rows
+slot_has_row net rank pins rows slots base j slot told slot_each at =
+    let sound = slot_each.sound j slot at in
+    omega (arith, slice_get_within net.cells slot.cell sound.0 sound.1.at, told.size)
+
 module _ (net : Netlist) (flat : IsFlat net) where
   pub few_cells : length net.cells ≤ 1048576
   few_cells = flat.formed.limits.cells
@@ -87,40 +102,59 @@ module _ (net : Netlist) (flat : IsFlat net) where
   places_fit c i cell pins.Zero at from = omega arith
   places_fit c i cell pins.One at from = omega arith
 
-  module _ (numbers inputs places : List ℕ) (rows : List Row) (slots : List Slot) (values stored : List Bool) (base : ℕ) (ranked : IsRanked net (slice_index numbers)) (input_each : inputs ≡ input_nets net)
-      (told : AreRowsTo net.cells (length net.cells) places rows base) (slot_each : AreSlots net (slice_index numbers) slots) (size : length values ≡ net_count net.groups + 2) (constants : HasConstants values)
+  module _ (numbers inputs pins : List ℕ) (rows : List Row) (slots : List Slot) (places : List ℕ) (formulas : List Formula) (values stored : List Bool) (base : ℕ) (ranked : IsRanked net (slice_index numbers))
+      (input_each : inputs ≡ input_nets net) (told : AreRowsTo net.cells (length net.cells) pins rows base) (slot_each : AreSlots net (slice_index numbers) slots)
+      (made : AreFormulasTo pins rows slots (length slots) places formulas) (size : length values ≡ net_count net.groups + 2) (constants : HasConstants values)
       (start : IsStartTo net.cells (length net.cells) stored) where
-    -- the cell of a row
+    -- the cell of a row, and the row of a cell
     cell_at : (c : ℕ) (row : Row) → slice_get rows c ≡ Some row → (cell : Cell) × (slice_get net.cells c ≡ Some cell)
     cell_at c row at = there_is net.cells c (omega (arith, slice_get_within rows c row at, told.size))
 
-    pin_size : (c : ℕ) (cell : Cell) (row : Row) → slice_get net.cells c ≡ Some cell → slice_get rows c ≡ Some row → length (slice_range places row.first row.last) ≡ length cell.ins
+    row_at : (c : ℕ) (cell : Cell) → slice_get net.cells c ≡ Some cell → (row : Row) × (slice_get rows c ≡ Some row)
+    row_at c cell at = there_is rows c (omega (arith, slice_get_within net.cells c cell at, told.size))
+
+    pin_size : (c : ℕ) (cell : Cell) (row : Row) → slice_get net.cells c ≡ Some cell → slice_get rows c ≡ Some row → length (slice_range pins row.first row.last) ≡ length cell.ins
     pin_size c cell row at there = ap length (told.each c cell row at there).1 ∙ length-map cell.ins place_of
 
-    row_for : (cell : Cell) (slot : Slot) → slice_get net.cells slot.cell ≡ Some cell → slot.out < length cell.outs → HasRowFor places rows slot
-    row_for cell slot at low =
-        let own = there_is rows slot.cell (omega (arith, slice_get_within net.cells slot.cell cell at, told.size)) in
-        let own_row = flat.formed.rows slot.cell cell at in (
-          own.0,
-          own.1,
-          subst (λ (n : ℕ). HasPins own.0.kind n slot.out) (sym (pin_size slot.cell cell own.0 at own.1))
-              (subst (λ (kind : CellKind). HasPins kind (length cell.ins) slot.out) (sym (told.each slot.cell cell own.0 at own.1).0)
-              (enough_pins cell.kind (length cell.ins) (length cell.outs) slot.out own_row.allowed own_row.input_count own_row.output_count low)),
+    -- a formula has what the row of its slot's cell has
+    is_formula : (j : ℕ) (slot : Slot) (cell : Cell) (formula : Formula) → slice_get slots j ≡ Some slot → slice_get net.cells slot.cell ≡ Some cell → slice_get formulas j ≡ Some formula → IsFormula net places slot cell formula
+    is_formula j slot cell formula there at own =
+        let row = row_at slot.cell cell at in
+        let tells = told.each slot.cell cell row.0 at row.1 in
+        let has = made.each j slot row.0 formula there row.1 own in
+        record { kind = has.0 ∙ tells.0; places = has.1 ∙ tells.1; base = has.2 ∙ tells.2; on_pin = has.3; on_net = has.4 }
+
+    formula_within : (j : ℕ) (formula : Formula) → slice_get formulas j ≡ Some formula → (formula.net + 2 < length values) × HasPinsWithin places formula
+    formula_within j formula own =
+        let slot = there_is slots j (omega (arith, slice_get_within formulas j formula own, made.size)) in
+        let sound = slot_each.sound j slot.0 slot.1 in
+        let cell = sound.0 in
+        let row = row_at slot.0.cell cell sound.1.at in
+        let has = made.each j slot.0 row.0 formula slot.1 row.1 own in
+        let is = is_formula j slot.0 cell formula slot.1 sound.1.at own in
+        let own_row = flat.formed.rows slot.0.cell cell sound.1.at in
+        let count : length (slice_range places formula.first formula.last) ≡ length cell.ins = ap length is.places ∙ length-map cell.ins place_of in (
+          omega (arith, is.on_net, flat.formed.outputs slot.0.cell cell slot.0.out slot.0.net sound.1, size),
+          record {
+            order = has.5;
+            room = has.6;
+            asked = subst (λ (out : ℕ). HasPins formula.kind (length (slice_range places formula.first formula.last)) out) (sym is.on_pin)
+                (subst (λ (n : ℕ). HasPins formula.kind n slot.0.out) (sym count)
+                (subst (λ (kind : CellKind). HasPins kind (length cell.ins) slot.0.out) (sym is.kind)
+                (enough_pins cell.kind (length cell.ins) (length cell.outs) slot.0.out own_row.allowed own_row.input_count own_row.output_count (slice_get_within cell.outs slot.0.out _ sound.1.on))));
+          },
         )
 
-    pub keeps_new : KeepsPlan net inputs places rows slots values stored
+    pub keeps_new : KeepsPlan net inputs pins rows places formulas values stored
     keeps_new = record {
       rank = slice_index numbers;
-      plan = record {
-        flat = flat;
-        ranked = ranked;
-        size = told.size;
-        row_each = λ c cell row at there. (let own = told.each c cell row at there in record { kind = own.0; places = own.1; base = own.2 });
-        slot_each = slot_each;
-      };
+      slots = slots;
+      plan = record { flat = flat; ranked = ranked; slot_each = slot_each; size = made.size; formula_each = is_formula };
+      row_count = told.size;
+      row_each = λ c cell row at there. (let own = told.each c cell row at there in record { kind = own.0; places = own.1; base = own.2 });
       input_each = input_each;
       within = record {
-        ranges = λ c row at. (let own = cell_at c row at in let each = told.each c own.0 row own.1 at in (each.3, each.4));
+        ranges = λ c row at. rows_range net.cells pins rows base c row told at;
         bases = λ c row at. (
             let own = cell_at c row at in let each = told.each c own.0 row own.1 at in
             let kinds : content_size row.kind ≡ content_size own.0.kind = ap content_size each.0 in
@@ -131,9 +165,7 @@ module _ (net : Netlist) (flat : IsFlat net) where
             (subst (λ (kind : CellKind). HasMemoryPins kind (length own.0.ins)) (sym (told.each c own.0 row own.1 at).0) (memory_pins own.0.kind (length own.0.ins) own_row.allowed own_row.input_count)));
         few = omega (arith, start.size, bases_fit net.cells (length net.cells) all_allowed few_cells);
       };
-      slots_within = λ j slot at. (
-          let own = slot_each.sound j slot at in
-          (omega (arith, flat.formed.outputs slot.cell own.0 slot.out slot.net own.1, size), row_for own.0 slot own.1.at (slice_get_within own.0.outs slot.out _ own.1.on)));
+      formulas_within = formula_within;
       inputs_within = λ i n at. (
           let own = filter_some _ (input_bits (parts_of net)) i n (sym (ap (λ xs. slice_get xs i) input_each) ∙ at) in
           let from = input_of (parts_of net) flat.formed n (own.0, own.1) in

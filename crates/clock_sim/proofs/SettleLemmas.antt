@@ -1,8 +1,8 @@
 -- One slot more is settled.
-use Rattle.std.proofs.Common.{◌≡◌, ◌≢◌, ℕ, ◌+◌, ◌<◌, ◌≤◌, Bool, true, false, List, [], ◌∷◌, map, length, set, slice_get, slice_range, Some, refl, ap, sym, ◌∙◌, subst, arith, inl, inr, get_or-set_same, get_or-set_other}
+use Rattle.std.proofs.Common.{◌≡◌, ◌≢◌, ℕ, ◌+◌, ◌<◌, ◌≤◌, Bool, true, false, List, [], ◌∷◌, map, length, get_or, set, slice_get, slice_range, Some, refl, ap, sym, ◌∙◌, subst, arith, inl, inr, get_or-set_same, get_or-set_other}
 use Rattle.std.proofs.Math.ListN.{length-set}
 use Rattle.std.proofs.lemmas.Bool.{cases_eq}
-use Rattle.std.proofs.lemmas.Option.{slice_get_within, same_Some}
+use Rattle.std.proofs.lemmas.Option.{slice_get_within, slice_get-get_or, same_Some}
 use Rattle.net_core.specs.declared.kind.CellKind.{CellKind}
 use Rattle.net_core.specs.declared.kind.CellKind.TheVariants.{Gate, Lut, Inv, Ibuf, Obuf, Bufg, Gnd, Vcc, Muxf7, Muxf8, Carry4, Fdre, Fdse, Fdce, Fdpe, Mem}
 use Rattle.net_core.specs.declared.parts.Pin.{Pin}
@@ -14,8 +14,8 @@ use Rattle.net_core.specs.Run.{pin_bit, input_pins}
 use Rattle.net_core.specs.Cycle.{Feeds}
 use Rattle.net_core.proofs.DependLemmas.{output_same}
 use Rattle.net_core.proofs.RunLemmas.{pins_agree, same_size}
-use Rattle.clock_sim.specs.declared.plan.Row.{Row}
 use Rattle.clock_sim.specs.declared.plan.Slot.{Slot}
+use Rattle.clock_sim.specs.declared.plan.Formula.{Formula}
 use Rattle.clock_sim.specs.Reading.{bit_at_place, net_bit, places_of, read_all}
 use Rattle.clock_sim.specs.Plan.{base_of, stored_bit, IsPlan, IsSettledTo, HasConstants, IsPlaced}
 
@@ -48,7 +48,7 @@ one_stored Carry4 count i size some low = absurd (omega (arith, low))
 net_bit_set : (values : List Bool) (n m : ℕ) (v : Bool) → m ≢ n → net_bit (set values (n + 2) v) m ≡ net_bit values m
 net_bit_set values n m v other = get_or-set_other values (n + 2) (m + 2) v false (λ e. other (omega (arith, e)))
 
-module _ (net : Netlist) (rank : ℕ → ℕ) (places : List ℕ) (rows : List Row) (slots : List Slot) (plan : IsPlan net rank places rows slots) (stored : List Bool) where
+module _ (net : Netlist) (rank : ℕ → ℕ) (slots : List Slot) (places : List ℕ) (formulas : List Formula) (plan : IsPlan net rank slots places formulas) (stored : List Bool) where
   pub settled_none : (values : List Bool) → HasConstants values → IsSettledTo net slots stored 0 values values
   settled_none values constants = record {
     size = refl;
@@ -58,9 +58,9 @@ module _ (net : Netlist) (rank : ℕ → ℕ) (places : List ℕ) (rows : List R
     kept = λ n on_none. refl;
   }
 
-  module _ (i : ℕ) (slot : Slot) (row : Row) (old values : List Bool) (v : Bool) (at : slice_get slots i ≡ Some slot) (row_at : slice_get rows slot.cell ≡ Some row)
+  module _ (i : ℕ) (slot : Slot) (formula : Formula) (old values : List Bool) (v : Bool) (at : slice_get slots i ≡ Some slot) (formula_at : slice_get formulas i ≡ Some formula)
       (room : slot.net + 2 < length values)
-      (is : v ≡ output row.kind (read_all values (slice_range places row.first row.last)) (λ _. bit_at_place stored row.base) slot.out)
+      (is : v ≡ output formula.kind (read_all values (slice_range places formula.first formula.last)) (λ _. bit_at_place stored formula.base) formula.out)
       (so_far : IsSettledTo net slots stored i old values) where
     -- the outputs up to this slot's do not depend on this slot's net
     pins_stay : (j : ℕ) (own : Slot) (cell : Cell) → j ≤ i → slice_get slots j ≡ Some own → slice_get net.cells own.cell ≡ Some cell
@@ -85,21 +85,22 @@ module _ (net : Netlist) (rank : ℕ → ℕ) (places : List ℕ) (rows : List R
     -- the bit written is that of the output
     own_bit : (cell : Cell) → slice_get net.cells slot.cell ≡ Some cell → v ≡ output cell.kind (input_pins (net_bit values) cell) (stored_bit net.cells stored slot.cell) slot.out
     own_bit cell there =
-        let own = plan.row_each slot.cell cell row there row_at in
+        let own = plan.formula_each i slot cell formula at there formula_at in
         let sound = plan.slot_each.sound i slot at in
         let same_cell : sound.0 ≡ cell = same_Some _ _ (sym sound.1.at ∙ there) in
         let on : slice_get cell.outs slot.out ≡ Some (Some (record { 0 = slot.net })) = subst (λ (o : Cell). slice_get o.outs slot.out ≡ Some (Some (record { 0 = slot.net }))) same_cell sound.1.on in
         let within : slot.out < length cell.outs = slice_get_within cell.outs slot.out (Some (record { 0 = slot.net })) on in
-        is ∙ ap (λ (kind : CellKind). output kind (read_all values (slice_range places row.first row.last)) (λ _. bit_at_place stored row.base) slot.out) own.kind
-        ∙ ap (λ (ps : List ℕ). output cell.kind (read_all values ps) (λ _. bit_at_place stored row.base) slot.out) own.places
-        ∙ ap (λ (ins : List Bool). output cell.kind ins (λ _. bit_at_place stored row.base) slot.out) (read_pins values cell.ins so_far.zero_place so_far.one_place)
-        ∙ output_same cell.kind (input_pins (net_bit values) cell) (input_pins (net_bit values) cell) (λ _. bit_at_place stored row.base) (stored_bit net.cells stored slot.cell) slot.out refl (λ k counts. refl)
+        is ∙ ap (λ (kind : CellKind). output kind (read_all values (slice_range places formula.first formula.last)) (λ _. bit_at_place stored formula.base) formula.out) own.kind
+        ∙ ap (λ (ps : List ℕ). output cell.kind (read_all values ps) (λ _. bit_at_place stored formula.base) formula.out) own.places
+        ∙ ap (λ (ins : List Bool). output cell.kind ins (λ _. bit_at_place stored formula.base) formula.out) (read_pins values cell.ins so_far.zero_place so_far.one_place)
+        ∙ ap (output cell.kind (input_pins (net_bit values) cell) (λ _. bit_at_place stored formula.base)) own.on_pin
+        ∙ output_same cell.kind (input_pins (net_bit values) cell) (input_pins (net_bit values) cell) (λ _. bit_at_place stored formula.base) (stored_bit net.cells stored slot.cell) slot.out refl (λ k counts. refl)
         (λ k stores.
         let first : k ≡ 0 = one_stored cell.kind (length cell.outs) k (plan.flat.formed.rows slot.cell cell there).output_count (omega (arith, within)) stores in
-        let place : row.base ≡ base_of net.cells slot.cell + k = omega (arith, own.base, first) in
+        let place : formula.base ≡ base_of net.cells slot.cell + k = omega (arith, own.base, first) in
         ap (bit_at_place stored) place)
 
-    pub settled_more : IsSettledTo net slots stored (i + 1) old (set values (slot.net + 2) v)
+    settled_more : IsSettledTo net slots stored (i + 1) old (set values (slot.net + 2) v)
     settled_more = record {
       size = length-set values (slot.net + 2) v ∙ so_far.size;
       zero_place = get_or-set_other values (slot.net + 2) 0 v false (omega arith) ∙ so_far.zero_place;
@@ -125,6 +126,18 @@ module _ (net : Netlist) (rank : ℕ → ℕ) (places : List ℕ) (rows : List R
               ∙ so_far.done j own cell early own_at there
               ∙ pins_stay j own cell (omega (arith, low)) own_at there)
         ]
+
+  -- the same of the formula that stands at this place
+  pub settled_formula : (i : ℕ) (formula : Formula) (old values : List Bool) (v : Bool) → slice_get formulas i ≡ Some formula → formula.net + 2 < length values
+      → v ≡ output formula.kind (read_all values (slice_range places formula.first formula.last)) (λ _. bit_at_place stored formula.base) formula.out
+      → IsSettledTo net slots stored i old values → IsSettledTo net slots stored (i + 1) old (set values (formula.net + 2) v)
+  settled_formula i formula old values v there room is so_far =
+      let slot : Slot = get_or slots i (record { level = 0; cell = 0; out = 0; net = 0 }) in
+      let at : slice_get slots i ≡ Some slot = slice_get-get_or slots i (record { level = 0; cell = 0; out = 0; net = 0 }) (omega (arith, slice_get_within formulas i formula there, plan.size)) in
+      let sound = plan.slot_each.sound i slot at in
+      let same : slot.net ≡ formula.net = sym (plan.formula_each i slot sound.0 formula at sound.1.at there).on_net in
+      subst (λ (n : ℕ). IsSettledTo net slots stored (i + 1) old (set values (n + 2) v)) same
+      (settled_more i slot formula old values v at there (omega (arith, same, room)) is so_far)
 
 -- one input more has its bit
 pub placed_more : (inputs : List ℕ) (row : List Bool) (i n : ℕ) (bit : Bool) (old values : List Bool) → slice_get inputs i ≡ Some n → slice_get row i ≡ Some bit → n + 2 < length values

@@ -10,6 +10,7 @@ use Rattle.net_core.specs.Run.{input_pins}
 use Rattle.net_core.specs.Cycle.{IsRanked}
 use Rattle.clock_sim.specs.declared.plan.Row.{Row}
 use Rattle.clock_sim.specs.declared.plan.Slot.{Slot}
+use Rattle.clock_sim.specs.declared.plan.Formula.{Formula}
 use Rattle.clock_sim.specs.Reading.{bit_at_place, net_bit, places_of, HasPins, HasMemoryPins}
 
 -- the number of a cell's first stored bit: all cells' stored bits stand one after the other
@@ -37,26 +38,40 @@ pub record AreSlots (net : Netlist) (rank : ℕ → ℕ) (slots : List Slot) : T
   pub apart : (j i : ℕ) (a b : Slot) → slice_get slots j ≡ Some a → slice_get slots i ≡ Some b → a.net ≡ b.net → j ≡ i
   pub ordered : (j i : ℕ) (a b : Slot) → slice_get slots j ≡ Some a → slice_get slots i ≡ Some b → j ≤ i → rank a.net ≤ rank b.net
 
-pub record IsPlan (net : Netlist) (rank : ℕ → ℕ) (pins : List ℕ) (rows : List Row) (slots : List Slot) : Type 0 where
+-- a formula tells the output of a slot of this cell
+pub record IsFormula (net : Netlist) (pins : List ℕ) (slot : Slot) (cell : Cell) (formula : Formula) : Type 0 where
+  pub kind : formula.kind ≡ cell.kind
+  pub places : slice_range pins formula.first formula.last ≡ places_of cell.ins
+  pub base : formula.base ≡ base_of net.cells slot.cell
+  pub on_pin : formula.out ≡ slot.out
+  pub on_net : formula.net ≡ slot.net
+
+abbrev pub AreFormulas : Netlist → List Slot → List ℕ → List Formula → Type 0
+AreFormulas net slots pins formulas = (j : ℕ) (slot : Slot) (cell : Cell) (formula : Formula) → slice_get slots j ≡ Some slot → slice_get net.cells slot.cell ≡ Some cell → slice_get formulas j ≡ Some formula → IsFormula net pins slot cell formula
+
+-- the plan of settling: a formula for each slot, in the order of the slots
+pub record IsPlan (net : Netlist) (rank : ℕ → ℕ) (slots : List Slot) (pins : List ℕ) (formulas : List Formula) : Type 0 where
   pub flat : IsFlat net
   pub ranked : IsRanked net rank
-  pub size : length rows ≡ length net.cells
-  pub row_each : AreRows net pins rows
   pub slot_each : AreSlots net rank slots
+  pub size : length formulas ≡ length slots
+  pub formula_each : AreFormulas net slots pins formulas
 
--- the numbers of rows and slots stay within their lists
+-- the numbers of rows stay within their lists
 pub record IsWithin (pins : List ℕ) (rows : List Row) (stored : ℕ) : Type 0 where
   pub ranges : (c : ℕ) (row : Row) → slice_get rows c ≡ Some row → (row.first ≤ row.last) × (row.last ≤ length pins)
   pub bases : (c : ℕ) (row : Row) → slice_get rows c ≡ Some row → row.base + content_size row.kind ≤ stored
   pub memories : (c : ℕ) (row : Row) → slice_get rows c ≡ Some row → HasMemoryPins row.kind (length (slice_range pins row.first row.last))
   pub few : stored < 2 ^ 64
 
--- the slot's cell has a row, with the pins that its evaluation asks
-abbrev pub HasRowFor : List ℕ → List Row → Slot → Type 0
-HasRowFor pins rows slot = (row : Row) × (slice_get rows slot.cell ≡ Some row) × HasPins row.kind (length (slice_range pins row.first row.last)) slot.out
+-- a formula's pins are a part of the list, and those that its evaluation asks
+pub record HasPinsWithin (pins : List ℕ) (formula : Formula) : Type 0 where
+  pub order : formula.first ≤ formula.last
+  pub room : formula.last ≤ length pins
+  pub asked : HasPins formula.kind (length (slice_range pins formula.first formula.last)) formula.out
 
-abbrev pub AreWithin : List ℕ → List Row → List Slot → ℕ → Type 0
-AreWithin pins rows slots nets = (j : ℕ) (slot : Slot) → slice_get slots j ≡ Some slot → (slot.net + 2 < nets) × HasRowFor pins rows slot
+abbrev pub AreWithin : List ℕ → List Formula → ℕ → Type 0
+AreWithin pins formulas nets = (j : ℕ) (formula : Formula) → slice_get formulas j ≡ Some formula → (formula.net + 2 < nets) × HasPinsWithin pins formula
 
 -- after the first slots: each of their nets has the bit of its output, and all nets that are on no output keep theirs
 pub record IsSettledTo (net : Netlist) (slots : List Slot) (stored : List Bool) (i : ℕ) (old values : List Bool) : Type 0 where
@@ -116,13 +131,16 @@ net_bits state = net_bit state.values
 abbrev pub net_content : State → ℕ → ℕ → Bool
 net_content state = stored_bit state.net.cells state.stored
 
--- what a plain simulator keeps: a plan of its netlist, by numbers that rise along dependence
-pub record KeepsPlan (net : Netlist) (inputs pins : List ℕ) (rows : List Row) (slots : List Slot) (values stored : List Bool) : Type 0 where
+-- what a plain simulator keeps: the rows of its netlist, and a plan of it by numbers that rise along dependence
+pub record KeepsPlan (net : Netlist) (inputs pins : List ℕ) (rows : List Row) (places : List ℕ) (formulas : List Formula) (values stored : List Bool) : Type 0 where
   pub rank : ℕ → ℕ
-  pub plan : IsPlan net rank pins rows slots
+  pub slots : List Slot
+  pub plan : IsPlan net rank slots places formulas
+  pub row_count : length rows ≡ length net.cells
+  pub row_each : AreRows net pins rows
   pub input_each : inputs ≡ input_nets net
   pub within : IsWithin pins rows (length stored)
-  pub slots_within : AreWithin pins rows slots (length values)
+  pub formulas_within : AreWithin places formulas (length values)
   pub inputs_within : (i n : ℕ) → slice_get inputs i ≡ Some n → n + 2 < length values
   pub constants : HasConstants values
 
@@ -133,6 +151,13 @@ pub record AreRowsTo (cells : List Cell) (i : ℕ) (places : List ℕ) (rows : L
   pub next_base : next ≡ base_of cells i
   pub each : (c : ℕ) (cell : Cell) (row : Row) → slice_get cells c ≡ Some cell → slice_get rows c ≡ Some row
       → (row.kind ≡ cell.kind) × (slice_range places row.first row.last ≡ places_of cell.ins) × (row.base ≡ base_of cells c) × (row.first ≤ row.last) × (row.last ≤ length places)
+
+-- the formulas of the first slots: each has what the row of its slot's cell has, with the same pins in a list of their own
+pub record AreFormulasTo (pins : List ℕ) (rows : List Row) (slots : List Slot) (i : ℕ) (places : List ℕ) (formulas : List Formula) : Type 0 where
+  pub size : length formulas ≡ i
+  pub each : (j : ℕ) (slot : Slot) (row : Row) (formula : Formula) → slice_get slots j ≡ Some slot → slice_get rows slot.cell ≡ Some row → slice_get formulas j ≡ Some formula
+      → (formula.kind ≡ row.kind) × (slice_range places formula.first formula.last ≡ slice_range pins row.first row.last) × (formula.base ≡ row.base) × (formula.out ≡ slot.out) × (formula.net ≡ slot.net)
+      × (formula.first ≤ formula.last) × (formula.last ≤ length places)
 
 -- the slots of a cell's data outputs, from the output k on
 abbrev pub cell_slots : Netlist → List ℕ → ℕ → ℕ → List (Option NetId) → List Slot

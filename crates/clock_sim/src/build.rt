@@ -10,10 +10,10 @@ ghost use Rattle.net_core.specs.Run.{IsStart};
 ghost use Rattle.net_core.specs.Cycle.{IsRanked};
 ghost use Rattle.net_core.specs.declared.parts.Cell.{Cell as CellOf};
 ghost use Rattle.clock_sim.specs.Reading.{place_of, places_of};
-ghost use Rattle.clock_sim.specs.Plan.{base_of, stored_bit, AreRowsTo, AreSlots, IsPlan, HasConstants, IsStartTo, cell_slots, all_slots};
+ghost use Rattle.clock_sim.specs.Plan.{base_of, stored_bit, AreRowsTo, AreFormulasTo, AreSlots, IsPlan, HasConstants, IsStartTo, cell_slots, all_slots};
 
 use crate::bits::Bits;
-use crate::plan::{Row, Slot};
+use crate::plan::{Formula, Row, Slot};
 use ila_base::NoMemory;
 use net_core::{Cell, CellKind, Flat, Group, NetId, Pin, Port};
 use net_levels::types::Levels;
@@ -137,6 +137,37 @@ fn sort_by_level(slots: &mut Vec<Slot>) -> Result<(), NoMemory>
     ensures sorted { OnOk result (IsNonDecreasingBy (λ (slot : SlotOf). slot.level) slots.new.items) }
 {
     slots.sort_by_key(|slot| slot.level)?;
+    Ok(())
+}
+
+/// The formulas of the slots, in their order, with the places of their pins in one list. It takes time
+/// linear in the slots and their pins.
+pub fn push_formulas(
+    places: &mut Vec<u32>,
+    formulas: &mut Vec<Formula>,
+    pins: &[u32],
+    rows: &[Row],
+    slots: &[Slot],
+) -> Result<(), NoMemory>
+    requires start { formulas.old.items ≡ [] }
+    requires ranges { (c : ℕ) (row : _) → slice_get rows.now c ≡ Some row → (row.first ≤ row.last) × (row.last ≤ length pins.now) }
+    requires cells { (j : ℕ) (slot : _) → slice_get slots.now j ≡ Some slot → slot.cell < length rows.now }
+    ensures { OnOk result (AreFormulasTo pins.now rows.now slots.now (length slots.now) places.new.items formulas.new.items) }
+{
+    for slot in slots {
+        let row = rows[slot.cell as usize];
+        let first = places.len();
+        places.extend_from_slice(&pins[row.first as usize..row.last as usize])?;
+        let last = places.len();
+        formulas.push(Formula {
+            kind: row.kind,
+            first,
+            last,
+            base: row.base,
+            out: slot.out,
+            net: slot.net,
+        })?;
+    }
     Ok(())
 }
 

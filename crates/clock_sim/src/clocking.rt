@@ -3,38 +3,41 @@ ghost use Rattle.net_core.specs.CellTable as kinds;
 ghost use Rattle.clock_sim.specs.Reading.{bit_at_place, read_all, HasMemoryPins};
 ghost use Rattle.net_core.specs.declared.kind.CellKind.TheVariants.{Mem};
 ghost use Rattle.net_core.specs.Netlist.{Netlist};
-ghost use Rattle.clock_sim.specs.Plan.{IsPlan, IsWithin, AreWithin, HasRowFor, IsSettledTo, HasConstants, IsPlaced, HasRows, AdvancesRow, WritesRow, IsAdvancedTo};
+ghost use Rattle.clock_sim.specs.Plan.{IsPlan, IsWithin, HasPinsWithin, AreWithin, IsSettledTo, HasConstants, IsPlaced, HasRows, AdvancesRow, WritesRow, IsAdvancedTo};
 
 use crate::bits::Bits;
-use crate::evaluate::{next_bit, output, read, row_number};
-use crate::plan::{Row, Slot};
+use crate::evaluate::{lut_output, next_bit, output, read, row_number};
+use crate::plan::{Formula, Row};
 use net_core::CellKind;
 
-/// Gives each net of the slots the bit of its output, one slot after the other. Where the slots are the
+/// Gives each net of the formulas the bit of its output, one after the other. Where they are those of the
 /// data outputs of a netlist in the order of levels, each output then has the bit that the bits of all
 /// nets make.
-pub fn settle(values: &mut Vec<bool>, pins: &[u32], rows: &[Row], slots: &[Slot], stored: &Bits)
-    requires rows { IsWithin pins.now rows.now (length stored.now) }
-    requires slots { AreWithin pins.now rows.now slots.now (length values.old.items) }
+pub fn settle(values: &mut Vec<bool>, pins: &[u32], formulas: &[Formula], stored: &Bits)
+    requires formulas { AreWithin pins.now formulas.now (length values.old.items) }
     requires constants { HasConstants values.old.items }
-    ensures { (net : Netlist) (rank : ℕ → ℕ) → IsPlan net rank pins.now rows.now slots.now → IsSettledTo net slots.now stored.now (length slots.now) values.old.items values.new.items }
+    ensures { (net : Netlist) (rank : ℕ → ℕ) (slots : _) → IsPlan net rank slots pins.now formulas.now → IsSettledTo net slots stored.now (length slots) values.old.items values.new.items }
 {
-    for slot in slots {
-        let bit = slot_bit(values.as_slice(), pins, rows, slot, stored);
-        values[slot.net as usize + 2] = bit;
+    for formula in formulas {
+        let bit = formula_bit(values.as_slice(), pins, formula, stored);
+        values[formula.net as usize + 2] = bit;
     }
 }
 
 // The bit of an output, as the bits of the nets and the stored bits are now.
-fn slot_bit(values: &[bool], pins: &[u32], rows: &[Row], slot: &Slot, stored: &Bits) -> bool
-    requires rows { IsWithin pins.now rows.now (length stored.now) }
-    requires slot { HasRowFor pins.now rows.now slot.now }
-    ensures { (row : _) → slice_get rows.now slot.now.cell ≡ Some row → result ≡ kinds.output row.kind (read_all values.now (slice_range pins.now row.first row.last)) (λ _. bit_at_place stored.now row.base) slot.now.out }
+fn formula_bit(values: &[bool], pins: &[u32], formula: &Formula, stored: &Bits) -> bool
+    requires { HasPinsWithin pins.now formula.now }
+    ensures { result ≡ kinds.output formula.now.kind (read_all values.now (slice_range pins.now formula.now.first formula.now.last)) (λ _. bit_at_place stored.now formula.now.base) formula.now.out }
 {
-    let row = rows[slot.cell as usize];
-    let own = &pins[row.first as usize..row.last as usize];
-    let kept = stored.get(row.base);
-    output(row.kind, values, own, kept, slot.out as usize)
+    let own = &pins[formula.first..formula.last];
+    match formula.kind {
+        // Most cells are LUTs, and a LUT stores nothing.
+        CellKind::Lut { n: _, init } => lut_output(init, values, own),
+        kind => {
+            let kept = stored.get(formula.base);
+            output(kind, values, own, kept, formula.out as usize)
+        }
+    }
 }
 
 /// Puts the row of bits on the nets of the inputs.

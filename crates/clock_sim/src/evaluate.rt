@@ -121,8 +121,8 @@ pub fn row_number(values: &[bool], pins: &[u32]) -> u32
     value
 }
 
-// Bit `pins` of a LUT's table, the first pin the lowest bit of the number.
-fn lut_output(init: u64, values: &[bool], pins: &[u32]) -> bool
+/// Bit `pins` of a LUT's table, the first pin the lowest bit of the number.
+pub fn lut_output(init: u64, values: &[bool], pins: &[u32]) -> bool
     requires { length pins.now ≤ 6 }
     ensures { result ≡ (bit_at_number init (table.binary (reverse (read_all values.now pins.now))) == 1) }
 {

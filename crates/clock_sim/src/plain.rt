@@ -5,10 +5,12 @@ ghost use Rattle.net_core.specs.Run.{StandsFor};
 ghost use Rattle.clock_sim.specs.Plan.{net_bits, net_content};
 
 use crate::bits::Bits;
-use crate::build::{count_nets, data_inputs, ordered_slots, push_rows, start_stored, start_values};
+use crate::build::{
+    count_nets, data_inputs, ordered_slots, push_formulas, push_rows, start_stored, start_values,
+};
 use crate::clocking::{advance, place_inputs, settle};
 use crate::evaluate::bit_number;
-use crate::plan::{Row, Slot};
+use crate::plan::{Formula, Row};
 use ila_base::NoMemory;
 use net_core::{CellId, Flat, Machine, NetId};
 use net_levels::types::Levels;
@@ -23,7 +25,8 @@ pub struct Plain<'a> {
     inputs: Vec<u32>,
     pins: Vec<u32>,
     rows: Vec<Row>,
-    slots: Vec<Slot>,
+    places: Vec<u32>,
+    formulas: Vec<Formula>,
     values: Vec<bool>,
     stored: Bits,
 }
@@ -35,7 +38,7 @@ impl<'a> Model for Plain<'a> {
 
     ghost view = { λ plain. record { net = plain.flat.now; values = plain.values.items; stored = plain.stored } };
 
-    ghost invariant = { λ plain. KeepsPlan plain.flat.now plain.inputs.items plain.pins.items plain.rows.items plain.slots.items plain.values.items plain.stored };
+    ghost invariant = { λ plain. KeepsPlan plain.flat.now plain.inputs.items plain.pins.items plain.rows.items plain.places.items plain.formulas.items plain.values.items plain.stored };
 }
 
 impl<'a> Plain<'a> {
@@ -51,6 +54,15 @@ impl<'a> Plain<'a> {
         let mut rows = Vec::new(alloc);
         let count = push_rows(&mut pins, &mut rows, flat.cells())?;
         let slots = ordered_slots(alloc, flat, levels)?;
+        let mut places = Vec::new(alloc);
+        let mut formulas = Vec::new(alloc);
+        push_formulas(
+            &mut places,
+            &mut formulas,
+            pins.as_slice(),
+            rows.as_slice(),
+            slots.as_slice(),
+        )?;
         let values = start_values(alloc, count_nets(flat.groups()))?;
         let stored = start_stored(alloc, flat.cells(), count)?;
         Ok(Plain {
@@ -58,7 +70,8 @@ impl<'a> Plain<'a> {
             inputs,
             pins,
             rows,
-            slots,
+            places,
+            formulas,
             values,
             stored,
         })
@@ -76,9 +89,8 @@ impl<'a> Machine for Plain<'a> {
         place_inputs(&mut self.values, self.inputs.as_slice(), inputs);
         settle(
             &mut self.values,
-            self.pins.as_slice(),
-            self.rows.as_slice(),
-            self.slots.as_slice(),
+            self.places.as_slice(),
+            self.formulas.as_slice(),
             &self.stored,
         );
         advance(

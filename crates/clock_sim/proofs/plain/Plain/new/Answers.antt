@@ -1,9 +1,12 @@
-use Rattle.std.proofs.Common.{ℕ, List, length, sum_by, slice_get, ap, sym, ◌∙◌, subst, arith}
+use Rattle.std.proofs.Common.{◌≡◌, ℕ, ◌+◌, List, length, sum_by, slice_get, slice_index, ap, sym, ◌∙◌, subst, arith}
 use Rattle.net_core.specs.declared.parts.Cell.{Cell}
 use Rattle.net_core.specs.Netlist.{net_count}
-use Rattle.clock_sim.specs.Plan.{AreRowsTo, IsStartTo}
-use Rattle.clock_sim.proofs.PlanLemmas.{few_pins, all_allowed, places_fit, keeps_new, stands_new}
+use Rattle.clock_sim.specs.declared.plan.Row.{Row}
+use Rattle.clock_sim.specs.declared.plan.Slot.{Slot}
+use Rattle.clock_sim.specs.Plan.{AreRowsTo, AreFormulasTo, IsStartTo}
+use Rattle.clock_sim.proofs.PlanLemmas.{few_pins, all_allowed, places_fit, rows_range, slot_has_row, keeps_new, stands_new}
 use Rattle.clock_sim.proofs.plain.Plain.new.Goals as goal
+use Rattle.clock_sim.proofs.plain.Plain.new.Goals.{In_ok-stored}
 
 pub push_rows-requires-clause-pins : goal.push_rows-requires-clause-pins
 push_rows-requires-clause-pins c =
@@ -19,22 +22,43 @@ push_rows-requires-clause-nets c = λ d i cell pin at from. places_fit c.args.fl
 pub start_stored-requires-clause-allowed : goal.start_stored-requires-clause-allowed
 start_stored-requires-clause-allowed c = λ d cell at. all_allowed c.args.flat.now c.cells.ensures.kept d cell (ap (λ (cells : List Cell). slice_get cells d) (sym c.cells-2.ensures.value) ∙ at)
 
-pub invariant_of-result : goal.invariant_of-result
-invariant_of-result c =
+pub push_formulas-requires-clause-ranges : goal.push_formulas-requires-clause-ranges
+push_formulas-requires-clause-ranges c = λ d row at.
+    let own = rows_range c.cells.result.now c.push_rows.new.places.items c.push_rows.new.rows.items c.in_ok-count.count d row c.in_ok-count.ensures (ap (λ (rows : List Row). slice_get rows d) (sym c.as_slice-2.ensures.value) ∙ at) in
+    (own.0, omega (arith, own.1, ap length c.as_slice.ensures.value))
+
+pub push_formulas-requires-clause-cells : goal.push_formulas-requires-clause-cells
+push_formulas-requires-clause-cells c = λ j slot at.
     let told : AreRowsTo c.args.flat.now.cells (length c.args.flat.now.cells) c.push_rows.new.places.items c.push_rows.new.rows.items c.in_ok-count.count =
     subst (λ (cells : List Cell). AreRowsTo cells (length cells) c.push_rows.new.places.items c.push_rows.new.rows.items c.in_ok-count.count) c.cells.ensures.value c.in_ok-count.ensures in
-    let start : IsStartTo c.args.flat.now.cells (length c.args.flat.now.cells) c.in_ok-stored.stored =
-    subst (λ (cells : List Cell). IsStartTo cells (length cells) c.in_ok-stored.stored) c.cells-2.ensures.value c.in_ok-stored.ensures in
+    let own = slot_has_row c.args.flat.now (slice_index c.args.levels.now) c.push_rows.new.places.items c.push_rows.new.rows.items c.in_ok-slots.slots.items c.in_ok-count.count j slot told c.in_ok-slots.ensures
+    (ap (λ (slots : List Slot). slice_get slots j) (sym c.as_slice-3.ensures.value) ∙ at) in
+    omega (arith, own, ap length c.as_slice-2.ensures.value)
+
+told : (c : In_ok-stored) → AreRowsTo c.args.flat.now.cells (length c.args.flat.now.cells) c.push_rows.new.places.items c.push_rows.new.rows.items c.in_ok-count.count
+told c = subst (λ (cells : List Cell). AreRowsTo cells (length cells) c.push_rows.new.places.items c.push_rows.new.rows.items c.in_ok-count.count) c.cells.ensures.value c.in_ok-count.ensures
+
+made : (c : In_ok-stored) → AreFormulasTo c.push_rows.new.places.items c.push_rows.new.rows.items c.in_ok-slots.slots.items (length c.in_ok-slots.slots.items) c.push_formulas.new.places.items c.push_formulas.new.formulas.items
+made c =
+    subst (λ (pins : List ℕ). AreFormulasTo pins c.push_rows.new.rows.items c.in_ok-slots.slots.items (length c.in_ok-slots.slots.items) c.push_formulas.new.places.items c.push_formulas.new.formulas.items) c.as_slice.ensures.value
+    (subst (λ (rows : List Row). AreFormulasTo c.as_slice.result.now rows c.in_ok-slots.slots.items (length c.in_ok-slots.slots.items) c.push_formulas.new.places.items c.push_formulas.new.formulas.items) c.as_slice-2.ensures.value
+    (subst (λ (slots : List Slot). AreFormulasTo c.as_slice.result.now c.as_slice-2.result.now slots (length slots) c.push_formulas.new.places.items c.push_formulas.new.formulas.items) c.as_slice-3.ensures.value c.in_ok-push_formulas.ensures))
+
+start : (c : In_ok-stored) → IsStartTo c.args.flat.now.cells (length c.args.flat.now.cells) c.in_ok-stored.stored
+start c = subst (λ (cells : List Cell). IsStartTo cells (length cells) c.in_ok-stored.stored) c.cells-2.ensures.value c.in_ok-stored.ensures
+
+size : (c : In_ok-stored) → length c.in_ok-values.values.items ≡ net_count c.args.flat.now.groups + 2
+size c = omega (arith, c.in_ok-values.ensures.size, c.count_nets.ensures, ap net_count c.groups.ensures.value)
+
+pub invariant_of-result : goal.invariant_of-result
+invariant_of-result c =
     keeps_new c.args.flat.now c.cells.ensures.kept c.args.levels.now c.in_ok-inputs.inputs.items c.push_rows.new.places.items c.push_rows.new.rows.items c.in_ok-slots.slots.items
-    c.in_ok-values.values.items c.in_ok-stored.stored c.in_ok-count.count c.requires.ranked c.in_ok-inputs.ensures told c.in_ok-slots.ensures
-    (omega (arith, c.in_ok-values.ensures.size, c.count_nets.ensures, ap net_count c.groups.ensures.value)) c.in_ok-values.ensures.constants start
+    c.push_formulas.new.places.items c.push_formulas.new.formulas.items c.in_ok-values.values.items c.in_ok-stored.stored c.in_ok-count.count c.requires.ranked c.in_ok-inputs.ensures
+    (told c) c.in_ok-slots.ensures (made c) (size c) c.in_ok-values.ensures.constants (start c)
 
 pub returns-clause-stands : goal.returns-clause-stands
 returns-clause-stands c =
-    let told : AreRowsTo c.args.flat.now.cells (length c.args.flat.now.cells) c.push_rows.new.places.items c.push_rows.new.rows.items c.in_ok-count.count =
-    subst (λ (cells : List Cell). AreRowsTo cells (length cells) c.push_rows.new.places.items c.push_rows.new.rows.items c.in_ok-count.count) c.cells.ensures.value c.in_ok-count.ensures in
-    let start : IsStartTo c.args.flat.now.cells (length c.args.flat.now.cells) c.in_ok-stored.stored =
-    subst (λ (cells : List Cell). IsStartTo cells (length cells) c.in_ok-stored.stored) c.cells-2.ensures.value c.in_ok-stored.ensures in
+    let at = (goal.at.returns-clause-stands c).In_ok-stored in
     stands_new c.args.flat.now c.cells.ensures.kept c.args.levels.now c.in_ok-inputs.inputs.items c.push_rows.new.places.items c.push_rows.new.rows.items c.in_ok-slots.slots.items
-    c.in_ok-values.values.items c.in_ok-stored.stored c.in_ok-count.count c.requires.ranked c.in_ok-inputs.ensures told c.in_ok-slots.ensures
-    (omega (arith, c.in_ok-values.ensures.size, c.count_nets.ensures, ap net_count c.groups.ensures.value)) c.in_ok-values.ensures.constants start
+    c.push_formulas.new.places.items c.push_formulas.new.formulas.items c.in_ok-values.values.items c.in_ok-stored.stored c.in_ok-count.count c.requires.ranked c.in_ok-inputs.ensures
+    (told at) c.in_ok-slots.ensures (made at) (size at) c.in_ok-values.ensures.constants (start at)

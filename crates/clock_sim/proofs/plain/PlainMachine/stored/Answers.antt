@@ -12,11 +12,11 @@ at_cell c = ap (λ (state : State). slice_get state.net.cells c.args.cell.0) c.s
 at_row : (c : After-index) → slice_get c.self.inside.rows.items c.args.cell.0 ≡ Some c.index.result.now
 at_row c =
     let low = slice_get_within c.self.inside.flat.now.cells c.args.cell.0 c.requires.0 (at_cell c) in
-    slice_get_read c.self.inside.rows.items _ c.args.cell.0 c.index.result.now refl (omega (arith, low, c.self.invariant.plan.size)) c.index.ensures
+    slice_get_read c.self.inside.rows.items _ c.args.cell.0 c.index.result.now refl (omega (arith, low, c.self.invariant.row_count)) c.index.ensures
 
 facts : (c : After-index) → (c.index.result.now.base + c.args.index < length c.self.inside.stored) × (c.index.result.now.base ≡ base_of c.self.inside.flat.now.cells c.args.cell.0)
 facts c =
-    stored_within c.self.inside.flat.now c.self.inside.inputs.items c.self.inside.pins.items c.self.inside.rows.items c.self.inside.slots.items c.self.inside.values.items c.self.inside.stored c.self.invariant
+    stored_within c.self.inside.flat.now c.self.inside.inputs.items c.self.inside.pins.items c.self.inside.rows.items c.self.inside.places.items c.self.inside.formulas.items c.self.inside.values.items c.self.inside.stored c.self.invariant
     c.args.cell.0 c.args.index c.requires.0 c.index.result.now (at_cell c) (at_row c) c.requires.2
 
 pub overflow_add-base : goal.overflow_add-base
