@@ -1,5 +1,5 @@
 -- The names and constants of an expression stand in its tokens, and there is one.
-use Rattle.std.proofs.Common.{◌≡◌, refl, sym, ◌∙◌, ap, subst, ℕ, zero, suc, ◌+◌, ◌<◌, List, [], ◌∷◌, ◌++◌, length, map, flat_map, arith, length-append}
+use Rattle.std.proofs.Common.{◌≡◌, refl, sym, ◌∙◌, ap, subst, ℕ, zero, suc, ◌<◌, List, [], ◌∷◌, ◌++◌, length, map, flat_map, arith, length-append}
 use Rattle.std.proofs.lemmas.List.{map-append}
 use Rattle.grammar.specs.Rule.{Rule, pure}
 use Rattle.ila_base.specs.declared.place.Place.{Place}

@@ -4,4 +4,3 @@ mod ExpressionPlaces
 mod ItemPlaces
 mod DesignPlaces
 mod SiteLaws
-mod OwnLaws

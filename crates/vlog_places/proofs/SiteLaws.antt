@@ -1,8 +1,11 @@
--- The sites of a tree as a list, in the order of the text, each with its place: which stand in it, and which places they have.
-use Rattle.std.proofs.Common.{◌≡◌, refl, ◌∙◌, ap, subst, ℕ, zero, suc, List, [], ◌∷◌, ◌++◌, map, flat_map, slice_get, ◌⊎◌, inl, inr, Option, Some, None, option_and_then}
+-- The sites of a tree as a list in the order of the text, each with its place. In the tree that a text stands for no two of them
+-- have one place.
+use Rattle.std.proofs.Common.{◌≡◌, refl, sym, ◌∙◌, ap, subst, ℕ, zero, suc, ◌<◌, List, [], ◌∷◌, ◌++◌, length, map, flat_map, slice_get, ◌⊎◌, inl, inr, Option, Some, None, option_and_then}
 use Rattle.std.proofs.lemmas.List.{map-append}
 use Rattle.std.proofs.lemmas.List.Concat.{flat_map_single}
 use Rattle.ila_base.specs.declared.place.Place.{Place}
+use Rattle.vlog_lex.specs.declared.token.Token.{Token}
+use Rattle.vlog_lex.specs.Cutting.{IsReading}
 use Rattle.vlog_parse.specs.declared.tree.Conns.{Conns}
 use Rattle.vlog_parse.specs.declared.tree.Conns.TheVariants.{ByName, ByPlace}
 use Rattle.vlog_parse.specs.declared.tree.Expr.{Expr}
@@ -11,20 +14,24 @@ use Rattle.vlog_parse.specs.declared.tree.Item.TheVariants.{Net, Assign, Gate, I
 use Rattle.vlog_parse.specs.declared.tree.Module.{Module}
 use Rattle.vlog_parse.specs.declared.tree.Tree.{Tree}
 use Rattle.vlog_parse.specs.Leaves.{Leaf, leaves}
+use Rattle.vlog_parse.specs.Lexemes.{lexemes}
+use Rattle.vlog_parse.specs.Parsing.{IsReadAs}
 use Rattle.vlog_check.specs.Scope.{leaf_place}
-use Rattle.vlog_check.specs.Places.{item_place, conn_expr, expr_at, Site, AtModule, AtItem, AtLeaf, StandsAt, module_name, item_name, leaf}
-use Rattle.vlog_places.proofs.ItemPlaces.{conn_slots, slots, slot_places, own_place, item_places}
-use Rattle.vlog_places.proofs.DesignPlaces.{module_places, tree_places}
+use Rattle.vlog_check.specs.Places.{item_place, conn_expr, expr_at, Site, AtModule, AtItem, AtLeaf, StandsAt, module_name, item_name, leaf, HasOwnPlaces}
+use Rattle.vlog_places.proofs.RisingLaws.{IsBefore, not_before, RiseBehind, rise_before, nowhere, places_rise}
+use Rattle.vlog_places.proofs.Standing.{rise_in, Each}
+use Rattle.vlog_places.proofs.ItemPlaces.{conn_slots, slots, slot_places, IsGoodSlot, own_place, item_places, IsGoodItem}
+use Rattle.vlog_places.proofs.DesignPlaces.{module_places, IsGoodModule, tree_places, IsGoodTree, design_tells}
 
 -- Lists made of numbered parts
 
 -- what each element gives with its number, one behind the other
-abbrev pub numbered : {A B : Type 0} → (ℕ → A → List B) → List A → List B
+abbrev numbered : {A B : Type 0} → (ℕ → A → List B) → List A → List B
 numbered f [] = []
 numbered f (x ∷ xs) = f 0 x ++ numbered (λ n. f (suc n)) xs
 
 -- y is an element of the list
-abbrev pub Has : {A : Type 0} → List A → A → Type 0
+abbrev Has : {A : Type 0} → List A → A → Type 0
 Has [] y = ⊥
 Has (x ∷ xs) y = (x ≡ y) ⊎ Has xs y
 
@@ -47,10 +54,10 @@ has_numbered f (z ∷ xs) (suc i) x y at own = has_right (f 0 z) (numbered (λ n
 
 -- The sites of a tree
 
-abbrev pub Placed : Type 0
+abbrev Placed : Type 0
 Placed = Site × Place
 
-abbrev pub placed_at : Placed → Place
+abbrev placed_at : Placed → Place
 placed_at s = s.1
 
 abbrev leaf_site : (ℕ → Site) → ℕ → Leaf → List Placed
@@ -73,7 +80,7 @@ item_sites k i item = own_site (AtItem k i) (item_place item) ++ numbered (expr_
 abbrev module_sites : ℕ → Module → List Placed
 module_sites k m = (AtModule k, m.place) ∷ numbered (item_sites k) m.items
 
-abbrev pub tree_sites : Tree → List Placed
+abbrev tree_sites : Tree → List Placed
 tree_sites tree = numbered module_sites tree.modules
 
 -- Their places
@@ -100,7 +107,7 @@ module_sites_places : (k : ℕ) (m : Module) → map placed_at (module_sites k m
 module_sites_places k m = ap (λ ps. m.place ∷ ps) (numbered_places (item_sites k) item_places (item_sites_places k) m.items)
 
 -- the places of a tree's sites are those that stand in its tokens
-pub tree_sites_places : (tree : Tree) → map placed_at (tree_sites tree) ≡ tree_places tree
+tree_sites_places : (tree : Tree) → map placed_at (tree_sites tree) ≡ tree_places tree
 tree_sites_places tree = numbered_places module_sites module_places module_sites_places tree.modules
 
 -- Each site is among them
@@ -121,7 +128,7 @@ slot_conn (ByName given) e expr is = slot_named given e expr is
 slot_conn (ByPlace given) e expr is = slot_some given e expr is
 
 -- an item's expression of a number is among its expressions
-pub slot_at : (item : Item) (e : ℕ) (expr : Expr) → expr_at item e ≡ Some expr → slice_get (slots item) e ≡ Some (Some expr)
+slot_at : (item : Item) (e : ℕ) (expr : Expr) → expr_at item e ≡ Some expr → slice_get (slots item) e ≡ Some (Some expr)
 slot_at (Net d) e expr is = absurd cc
 slot_at (Assign target value) zero expr is = ap Some is
 slot_at (Assign target value) (suc zero) expr is = ap Some is
@@ -134,7 +141,7 @@ own_has site None p is = absurd cc
 own_has site (Some q) p is = let same : q ≡ p = cc in inl (ap (λ r. (site, r)) same)
 
 -- what stands at a place in a tree is one of its sites
-pub stands_has : (tree : Tree) (s : Site) (p : Place) → StandsAt tree s p → Has (tree_sites tree) (s, p)
+stands_has : (tree : Tree) (s : Site) (p : Place) → StandsAt tree s p → Has (tree_sites tree) (s, p)
 stands_has tree _ _ (module_name k m at) = has_numbered module_sites tree.modules k m (AtModule k, m.place) at (inl refl)
 stands_has tree _ _ (item_name k i m item p at there is) =
     has_numbered module_sites tree.modules k m (AtItem k i, p) at
@@ -146,3 +153,47 @@ stands_has tree _ _ (leaf k i e l m item expr own at there is among) =
     (has_right (own_site (AtItem k i) (item_place item)) (numbered (expr_sites k i) (slots item)) (AtLeaf k i e l, leaf_place own)
     (has_numbered (expr_sites k i) (slots item) e (Some expr) (AtLeaf k i e l, leaf_place own) (slot_at item e expr is)
     (has_numbered (leaf_site (AtLeaf k i e)) (leaves expr) l own (AtLeaf k i e l, leaf_place own) among (inl refl))))))
+
+-- No two have one place
+
+-- each of the sites stands behind the place
+behind : (sites : List Placed) (p : Place) → RiseBehind p (map placed_at sites) → (s : Site) (q : Place) → Has sites (s, q) → IsBefore p q
+behind [] p rise s q own = absurd own
+behind (x ∷ sites) p rise s q (inl same) = subst (λ y. IsBefore p (placed_at y)) same rise.0
+behind (x ∷ sites) p rise s q (inr own) = behind sites p (rise_before p (placed_at x) (map placed_at sites) rise.0 rise.1) s q own
+
+-- no other of the sites has this one's place
+not_again : (x : Placed) (sites : List Placed) → RiseBehind (placed_at x) (map placed_at sites) → (s t : Site) (q : Place) → x ≡ (s, q) → Has sites (t, q) → ⊥
+not_again x sites rise s t q same own =
+    let first : IsBefore (placed_at x) q = behind sites (placed_at x) rise t q own in
+    not_before q (subst (λ y. IsBefore (placed_at y) q) same first)
+
+-- of sites whose places rise, no two have one place
+one_site : (sites : List Placed) (p : Place) → RiseBehind p (map placed_at sites) → (s t : Site) (q : Place) → Has sites (s, q) → Has sites (t, q) → s ≡ t
+one_site [] p rise s t q own also = absurd own
+one_site (x ∷ sites) p rise s t q (inl same) (inl other) = ap (λ (y : Placed). y.0) (sym same ∙ other)
+one_site (x ∷ sites) p rise s t q (inl same) (inr also) = absurd (not_again x sites rise.1 s t q same also)
+one_site (x ∷ sites) p rise s t q (inr own) (inl other) = absurd (not_again x sites rise.1 t s q other own)
+one_site (x ∷ sites) p rise s t q (inr own) (inr also) = one_site sites (placed_at x) rise.1 s t q own also
+
+each_get : {A : Type 0} (P : A → Type 0) (xs : List A) (i : ℕ) (x : A) → Each P xs → slice_get xs i ≡ Some x → P x
+each_get P [] i x all at = absurd cc
+each_get P (y ∷ xs) zero x all at = let same : y ≡ x = cc in subst P same all.0
+each_get P (y ∷ xs) (suc i) x all at = each_get P xs i x all.1 at
+
+-- each expression of the tree has a leaf
+some_leaf : (tree : Tree) → IsGoodTree tree → (k i e : ℕ) (m : Module) (item : Item) (expr : Expr) → slice_get tree.modules k ≡ Some m → slice_get m.items i ≡ Some item
+    → expr_at item e ≡ Some expr → 0 < length (leaves expr)
+some_leaf tree good k i e m item expr at there is =
+    each_get IsGoodSlot (slots item) e (Some expr) (each_get IsGoodItem m.items i item (each_get IsGoodModule tree.modules k m good at) there) (slot_at item e expr is)
+
+-- what the tokens of a text are read as has places of its own
+pub own_places : (text : List ℕ) (tokens : List Token) (tree : Tree) → IsReading text tokens None → IsReadAs text tokens tree → HasOwnPlaces tree
+own_places text tokens tree reading read =
+    let told = design_tells.told (lexemes text tokens) tree read.design in
+    let rise : RiseBehind nowhere (tree_places tree) = rise_in nowhere told.1 (places_rise text tokens reading) in
+    let sites : RiseBehind nowhere (map placed_at (tree_sites tree)) = subst (RiseBehind nowhere) (sym (tree_sites_places tree)) rise in
+    record {
+      own = λ s t p first second. one_site (tree_sites tree) nowhere sites s t p (stands_has tree s p first) (stands_has tree t p second);
+      some = some_leaf tree told.0;
+    }

@@ -1,4 +1,4 @@
-use Rattle.vlog_places.proofs.OwnLaws as laws
+use Rattle.vlog_places.proofs.SiteLaws as laws
 use Rattle.vlog_places.proofs.laws.own_places.Goals as goal
 
 pub returns : goal.returns
