@@ -28,6 +28,30 @@ def random_logic(cells):
     return "\n".join(lines + [f"  buf (y, n[{cells}]);", "endmodule", ""])
 
 
+def short(number):
+    """A name of few letters."""
+    digits = "0123456789abcdefghijklmnopqrstuvwxyz"
+    text = ""
+    while number or not text:
+        text = digits[number % 36] + text
+        number //= 36
+    return text
+
+
+def tight_logic(cells):
+    """Random logic as above, with LUTs of two inputs, short names and no blanks, so that a million cells fit into a file."""
+    draw = random.Random(cells)
+    lines = ["module m(clk,a,y);input clk,a;output y;wire " + ",".join(f"n{short(k)}" for k in range(cells + 1)) + ";buf(n0,a);"]
+    for k in range(1, cells + 1):
+        name, net = "u" + short(k), "n" + short(k)
+        if k % 2:
+            ins = [short(draw.randrange(k)) for _ in range(2)]
+            lines.append(f"LUT2#(.INIT(4'h{draw.randrange(16):x})){name}(.I0(n{ins[0]}),.I1(n{ins[1]}),.O({net}));")
+        else:
+            lines.append(f"FDRE {name}(.C(clk),.CE(1'b1),.D(n{short(k - 1)}),.Q({net}),.R(1'b0));")
+    return "\n".join(lines + [f"buf(y,n{short(cells)});", "endmodule", ""])
+
+
 def chain(cells):
     """One chain of gates from the input to the output."""
     lines = ["module m (clk, a, y);", "  input clk, a;", "  output y;", f"  wire [{cells}:0] n;", "  buf (n[0], a);"]
@@ -90,7 +114,7 @@ def main():
     print("| Netlist | Cells | Ready, s | Million cells times clocks a second | Peak MB |")
     print("|---|---|---|---|---|")
     with tempfile.TemporaryDirectory() as folder:
-        for make in (random_logic, chain, deep, wide):
+        for make in (random_logic, tight_logic, chain, deep, wide):
             for cells in (1_000, 10_000, 100_000, 125_000, 250_000, 500_000, 1_000_000):
                 if cells > largest:
                     continue
