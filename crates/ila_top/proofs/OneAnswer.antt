@@ -25,9 +25,7 @@ use Rattle.ila_top.specs.declared.status.Status.TheVariants.{Done, Usage, Netlis
 use Rattle.ila_top.specs.Reading.{StandsForTree, IsTextFault, IsAcceptedText, design_of}
 use Rattle.ila_top.specs.Rows.{HasRowsIfTold}
 use Rattle.ila_top.specs.Answers.{Outside, SimWords, sim_words, most_bytes, HoldsIfTold, LacksIfTold, LongerIfTold, IsLoaded, NetCause, IsAccepted, IsStimRefusal, SimCause, Cause}
-use Rattle.ila_top.specs.Sentences.{IsTold, Sentence, IsHindrance, AreSameFault, AreSame}
-use Rattle.ila_top.specs.Sentences.AreSameFault as faults
-use Rattle.ila_top.specs.Sentences.AreSame as answers
+use Rattle.ila_top.specs.Sentences.{IsTold, Sentence, IsHindrance, AreSameFault, same_fault, loop_faults, AreSame, same, loops}
 use Rattle.ila_top.proofs.OneText.{TextLaws, same_tree, accepted_clear, one_fault}
 
 -- what the steps below say of one text and one stimulus
@@ -52,8 +50,8 @@ longer : (files : Option (List File)) (own : List File) (name bytes : List ℕ) 
 longer None own name bytes is long some short = cc is
 longer (Some files) own name bytes is long some short =
     let e : Some long.0 ≡ Some bytes = sym long.1 ∙ some in
-    let same : long.0 ≡ bytes = cc e in
-    omega (arith, long.2, short, ap (λ xs. length xs) same)
+    let own_bytes : long.0 ≡ bytes = cc e in
+    omega (arith, long.2, short, ap (λ xs. length xs) own_bytes)
 
 longer_lacks : (files : Option (List File)) (own : List File) (name : List ℕ) → files ≡ Some own → LongerIfTold files name → LacksIfTold files name → ⊥
 longer_lacks None own name is long none = cc is
@@ -65,11 +63,11 @@ refused_from inputs text (Line n) refused = refused
 refused_from inputs text (Limit n) refused = refused
 
 to_answer : (fault other : NetFault) → AreSameFault fault other → AreSame (Netlist fault.refusal fault.place) (Netlist other.refusal other.place)
-to_answer _ _ (faults.same fault) = answers.same (Netlist fault.refusal fault.place)
-to_answer _ _ (faults.loops names others place) = answers.loops names others place
+to_answer _ _ (same_fault fault) = same (Netlist fault.refusal fault.place)
+to_answer _ _ (loop_faults names others place) = loops names others place
 
 same_answer : (one other : Status) → one ≡ other → AreSame one other
-same_answer one other is = subst (AreSame one) is (answers.same one)
+same_answer one other is = subst (AreSame one) is (same one)
 
 module _ (laws : AnswerLaws) (sim : SimWords) (before : Outside) (told : IsTold before) where
   abbrev the_design : Tree → Design
@@ -93,8 +91,8 @@ module _ (laws : AnswerLaws) (sim : SimWords) (before : Outside) (told : IsTold 
 
   named : (tree : Tree) (top : Module) → IsAccepted sim before (the_design tree) top → AreNames (names_of (the_inputs top))
   named tree top own =
-      let same = laws.inputs (the_design tree) own.accepted.net top own.accepted.own.checked own.accepted.own.flat own.accepted.own.elaborates own.is_top in
-      subst (λ (inputs : List DataInput). AreNames (names_of inputs)) same (laws.names own.accepted.net own.accepted.own.flat)
+      let agree = laws.inputs (the_design tree) own.accepted.net top own.accepted.own.checked own.accepted.own.flat own.accepted.own.elaborates own.is_top in
+      subst (λ (inputs : List DataInput). AreNames (names_of inputs)) agree (laws.names own.accepted.net own.accepted.own.flat)
 
   refused_of : (inputs : List DataInput) (why : StimRefusal) → IsStimRefusal inputs before.left why → IsRefused inputs told.text why
   refused_of inputs why refused = refused_from inputs told.text why (subst (λ (left : Option (List ℕ)). IsStimRefusal inputs left why) told.has_text refused)
@@ -102,15 +100,15 @@ module _ (laws : AnswerLaws) (sim : SimWords) (before : Outside) (told : IsTold 
   two_refusals : (tree other : Tree) (top also : Module) (why more : StimRefusal) → IsAccepted sim before (the_design tree) top → IsStimRefusal (the_inputs top) before.left why
       → IsAccepted sim before (the_design other) also → IsStimRefusal (the_inputs also) before.left more → why ≡ more
   two_refusals tree other top also why more own first again second =
-      let same : top ≡ also = one_top tree other top also own again in
+      let tops : top ≡ also = one_top tree other top also own again in
       laws.refusal (the_inputs also) told.text why more (named other also again)
-      (refused_of (the_inputs also) why (subst (λ (m : Module). IsStimRefusal (the_inputs m) before.left why) same first)) (refused_of (the_inputs also) more second)
+      (refused_of (the_inputs also) why (subst (λ (m : Module). IsStimRefusal (the_inputs m) before.left why) tops first)) (refused_of (the_inputs also) more second)
 
   rows_or_refusal : (tree other : Tree) (top also : Module) (rows : List (List Bool)) (why : StimRefusal) → IsAccepted sim before (the_design tree) top
       → HasRowsIfTold (the_inputs top) before.left rows → IsAccepted sim before (the_design other) also → IsStimRefusal (the_inputs also) before.left why → ⊥
   rows_or_refusal tree other top also rows why own has again refused =
-      let same : top ≡ also = one_top tree other top also own again in
-      let moved : HasRowsIfTold (the_inputs also) before.left rows = subst (λ (m : Module). HasRowsIfTold (the_inputs m) before.left rows) same has in
+      let tops : top ≡ also = one_top tree other top also own again in
+      let moved : HasRowsIfTold (the_inputs also) before.left rows = subst (λ (m : Module). HasRowsIfTold (the_inputs m) before.left rows) tops has in
       let all : HasRowsIfTold (the_inputs also) (Some told.text) rows = subst (λ (left : Option (List ℕ)). HasRowsIfTold (the_inputs also) left rows) told.has_text moved in
       laws.no_refusal (the_inputs also) told.text rows why (named other also again) all.0 all.1 (refused_of (the_inputs also) why refused)
 
@@ -142,7 +140,7 @@ module _ (laws : AnswerLaws) (sim : SimWords) (before : Outside) (told : IsTold 
   accepted_or_lacks tree top own none = lacks before.files told.files sim.netlist own.bytes told.has_files none own.loaded.0
 
   pub one_answer : (one other : Status) → Sentence sim before one → Sentence sim before other → AreSame one other
-  one_answer Done Done first second = answers.same Done
+  one_answer Done Done first second = same Done
   one_answer Done (Netlist refusal place) (tree, top, rows, own, has) second = absurd (cause_or_accepted refusal place tree top second own)
   one_answer Done (NoFile name) (tree, top, rows, own, has) second = absurd (accepted_or_lacks tree top own second.1)
   one_answer Done (Stimulus why) (tree, top, rows, own, has) (other, also, again, refused) = absurd (rows_or_refusal tree other top also rows why own has again refused)
@@ -193,8 +191,8 @@ module _ (law : (sim : SimWords) (before : Outside) (one other : Status) → IsT
   of_sim : (after : Outside) (result : Status) (own : SimWords) → sim_words words ≡ Some own → SimCause own before after result → IsHindrance result ⊎ AreSame status result
   of_sim after result own also cause =
       let e : Some own ≡ Some sim = sym also ∙ is in
-      let same : own ≡ sim = cc e in
-      from_sentence result (sentence_of sim before after result (subst (λ (s : SimWords). SimCause s before after result) same cause))
+      let sims : own ≡ sim = cc e in
+      from_sentence result (sentence_of sim before after result (subst (λ (s : SimWords). SimCause s before after result) sims cause))
 
   pub comes : (after : Outside) (result : Status) → Cause words before after result → IsHindrance result ⊎ AreSame status result
   comes after Usage cause = absurd (let e : None ≡ Some sim = sym cause ∙ is in cc e)

@@ -16,8 +16,7 @@ use Rattle.elab_design.specs.Design.{Design}
 use Rattle.elab_design.specs.Limits.{IsElabFault}
 use Rattle.elab_design.specs.Elaborates.{Elaborates}
 use Rattle.ila_top.specs.Reading.{StandsForTree, IsNetOf, IsLoopFault, IsTextFault, no_tokens, no_tree, unchecked, not_unfolded, loops, IsAcceptedText, design_of, nowhere}
-use Rattle.ila_top.specs.Sentences.{AreSameFault}
-use Rattle.ila_top.specs.Sentences.AreSameFault as faults
+use Rattle.ila_top.specs.Sentences.{AreSameFault, same_fault, loop_faults}
 
 -- what the steps below say of one text: one list of tokens, one tree, one refusal each, one flat netlist
 pub record TextLaws : Type 0 where
@@ -28,7 +27,7 @@ pub record TextLaws : Type 0 where
   pub finding : (text : List ℕ) (tokens : List Token) (tree : Tree) (top : List ℕ) (fault other : NetFault) → IsReading text tokens None → IsReadAs text tokens tree
       → IsRefused tree top fault → IsRefused tree top other → fault ≡ other
   pub no_finding : (tree : Tree) (top : List ℕ) (fault : NetFault) → IsChecked tree top → IsRefused tree top fault → ⊥
-  pub unfolding : (d : Design) (fault other : NetFault) → IsChecked d.tree d.top → IsElabFault d fault → IsElabFault d other → fault ≡ other
+  pub elaboration : (d : Design) (fault other : NetFault) → IsChecked d.tree d.top → IsElabFault d fault → IsElabFault d other → fault ≡ other
   pub flat : (d : Design) (net other : Netlist) → IsChecked d.tree d.top → Elaborates d net → Elaborates d other → parts_of net ≡ parts_of other
 
 -- A cycle of one flat netlist is one of another with the same parts.
@@ -68,11 +67,11 @@ module _ (net other : Netlist) (flat : IsFlat net) (also : IsFlat other) (same :
   }
 
 to_same : (fault other : NetFault) → fault ≡ other → AreSameFault fault other
-to_same fault other is = subst (AreSameFault fault) is (faults.same fault)
+to_same fault other is = subst (AreSameFault fault) is (same_fault fault)
 
 loop_same : (net also : Netlist) (fault other : NetFault) → IsLoopFault net fault → IsLoopFault also other → AreSameFault fault other
 loop_same net also fault other first second =
-    subst (λ f. AreSameFault f other) (sym first.is) (subst (AreSameFault _) (sym second.is) (faults.loops first.names second.names nowhere))
+    subst (λ f. AreSameFault f other) (sym first.is) (subst (AreSameFault _) (sym second.is) (loop_faults first.names second.names nowhere))
 
 module _ (laws : TextLaws) (text : List ℕ) where
   -- a text with a fault in its bytes has no tokens to its end
@@ -86,8 +85,8 @@ module _ (laws : TextLaws) (text : List ℕ) where
 
   -- a text whose tokens are refused stands for no tree
   no_syntax : (tokens : List Token) (tree : Tree) (fault : NetFault) → IsReading text tokens None → IsRefusal text tokens fault → StandsForTree text tree → ⊥
-  no_syntax tokens tree fault cut refused stands =
-      let same : tokens ≡ stands.tokens = (laws.reading text tokens stands.tokens None None cut stands.cut).0 in
+  no_syntax tokens tree fault reads refused stands =
+      let same : tokens ≡ stands.tokens = (laws.reading text tokens stands.tokens None None reads stands.cut).0 in
       laws.no_refusal text stands.tokens tree fault stands.read_as (subst (λ (ts : List Token). IsRefusal text ts fault) same refused)
 
   no_check : (top : List ℕ) (tree other : Tree) (fault : NetFault) → StandsForTree text tree → IsRefused tree top fault → StandsForTree text other → IsChecked other top → ⊥
@@ -107,8 +106,8 @@ module _ (laws : TextLaws) (text : List ℕ) where
       free (loop.loops.nets, cycle_on net also own.flat accepted.flat (laws.flat (design_of other top clock) net also accepted.checked moved accepted.elaborates) loop.loops.nets loop.loops.cycle)
 
   pub accepted_clear : (top clock : List ℕ) (tree : Tree) (fault : NetFault) → IsAcceptedText text (design_of tree top clock) → IsTextFault text top clock fault → ⊥
-  accepted_clear top clock tree fault accepted (no_tokens tokens cut) = cut_off tokens accepted.own.stands_for.tokens fault cut accepted.own.stands_for.cut
-  accepted_clear top clock tree fault accepted (no_tree tokens cut refused) = no_syntax tokens tree fault cut refused accepted.own.stands_for
+  accepted_clear top clock tree fault accepted (no_tokens tokens reads) = cut_off tokens accepted.own.stands_for.tokens fault reads accepted.own.stands_for.cut
+  accepted_clear top clock tree fault accepted (no_tree tokens reads refused) = no_syntax tokens tree fault reads refused accepted.own.stands_for
   accepted_clear top clock tree fault accepted (unchecked other stands refused) = no_check top other tree fault stands refused accepted.own.stands_for accepted.own.checked
   accepted_clear top clock tree fault accepted (not_unfolded other stands checked refused) = no_fault top clock other tree accepted.net fault stands refused accepted.own
   accepted_clear top clock tree fault accepted (loops other net own loop) = no_loop top clock other tree net accepted.net fault own loop accepted.own accepted.no_cycle
@@ -116,8 +115,8 @@ module _ (laws : TextLaws) (text : List ℕ) where
   module _ (top clock : List ℕ) where
     both_refused : (fault other : NetFault) (tokens others : List Token) → IsReading text tokens None → IsRefusal text tokens fault → IsReading text others None
         → IsRefusal text others other → fault ≡ other
-    both_refused fault other tokens others cut first also second =
-        let same : tokens ≡ others = (laws.reading text tokens others None None cut also).0 in
+    both_refused fault other tokens others reads first also second =
+        let same : tokens ≡ others = (laws.reading text tokens others None None reads also).0 in
         laws.refusal text others fault other (subst (λ (ts : List Token). IsRefusal text ts fault) same first) second
 
     both_found : (fault other : NetFault) (tree also : Tree) → StandsForTree text tree → IsRefused tree top fault → StandsForTree text also → IsRefused also top other → fault ≡ other
@@ -127,21 +126,21 @@ module _ (laws : TextLaws) (text : List ℕ) where
     both_unfolded : (fault other : NetFault) (tree also : Tree) → StandsForTree text tree → IsElabFault (design_of tree top clock) fault → StandsForTree text also → IsChecked also top
         → IsElabFault (design_of also top clock) other → fault ≡ other
     both_unfolded fault other tree also stands first again checked second =
-        laws.unfolding (design_of also top clock) fault other checked
+        laws.elaboration (design_of also top clock) fault other checked
         (subst (λ (t : Tree). IsElabFault (design_of t top clock) fault) (same_tree tree also stands again) first) second
 
     pub one_fault : (fault other : NetFault) → IsTextFault text top clock fault → IsTextFault text top clock other → AreSameFault fault other
-    one_fault fault other (no_tokens tokens cut) (no_tokens others also) =
-        to_same fault other (let e : Some fault ≡ Some other = (laws.reading text tokens others (Some fault) (Some other) cut also).1 in cc e)
-    one_fault fault other (no_tokens tokens cut) (no_tree others also _) = absurd (cut_off tokens others fault cut also)
-    one_fault fault other (no_tokens tokens cut) (unchecked tree stands _) = absurd (cut_off tokens stands.tokens fault cut stands.cut)
-    one_fault fault other (no_tokens tokens cut) (not_unfolded tree stands _ _) = absurd (cut_off tokens stands.tokens fault cut stands.cut)
-    one_fault fault other (no_tokens tokens cut) (loops tree net own _) = absurd (cut_off tokens own.stands_for.tokens fault cut own.stands_for.cut)
-    one_fault fault other (no_tree tokens cut _) (no_tokens others also) = absurd (cut_off others tokens other also cut)
-    one_fault fault other (no_tree tokens cut first) (no_tree others also second) = to_same fault other (both_refused fault other tokens others cut first also second)
-    one_fault fault other (no_tree tokens cut refused) (unchecked tree stands _) = absurd (no_syntax tokens tree fault cut refused stands)
-    one_fault fault other (no_tree tokens cut refused) (not_unfolded tree stands _ _) = absurd (no_syntax tokens tree fault cut refused stands)
-    one_fault fault other (no_tree tokens cut refused) (loops tree net own _) = absurd (no_syntax tokens tree fault cut refused own.stands_for)
+    one_fault fault other (no_tokens tokens reads) (no_tokens others also) =
+        to_same fault other (let e : Some fault ≡ Some other = (laws.reading text tokens others (Some fault) (Some other) reads also).1 in cc e)
+    one_fault fault other (no_tokens tokens reads) (no_tree others also _) = absurd (cut_off tokens others fault reads also)
+    one_fault fault other (no_tokens tokens reads) (unchecked tree stands _) = absurd (cut_off tokens stands.tokens fault reads stands.cut)
+    one_fault fault other (no_tokens tokens reads) (not_unfolded tree stands _ _) = absurd (cut_off tokens stands.tokens fault reads stands.cut)
+    one_fault fault other (no_tokens tokens reads) (loops tree net own _) = absurd (cut_off tokens own.stands_for.tokens fault reads own.stands_for.cut)
+    one_fault fault other (no_tree tokens reads _) (no_tokens others also) = absurd (cut_off others tokens other also reads)
+    one_fault fault other (no_tree tokens reads first) (no_tree others also second) = to_same fault other (both_refused fault other tokens others reads first also second)
+    one_fault fault other (no_tree tokens reads refused) (unchecked tree stands _) = absurd (no_syntax tokens tree fault reads refused stands)
+    one_fault fault other (no_tree tokens reads refused) (not_unfolded tree stands _ _) = absurd (no_syntax tokens tree fault reads refused stands)
+    one_fault fault other (no_tree tokens reads refused) (loops tree net own _) = absurd (no_syntax tokens tree fault reads refused own.stands_for)
     one_fault fault other (unchecked tree stands _) (no_tokens others also) = absurd (cut_off others stands.tokens other also stands.cut)
     one_fault fault other (unchecked tree stands _) (no_tree others also refused) = absurd (no_syntax others tree other also refused stands)
     one_fault fault other (unchecked tree stands first) (unchecked also again second) = to_same fault other (both_found fault other tree also stands first again second)

@@ -1,7 +1,8 @@
 -- Why a netlist is refused, from the one call to the other.
 use Rattle.std.proofs.Common.{ℕ, List, Result, Ok, Err, inl, inr}
-use Rattle.std.specs.Prelude.{Some, None, IfErr}
+use Rattle.std.specs.Prelude.{Some, None, IfOk, IfErr, OnOk}
 use Rattle.net_core.specs.Netlist.{Netlist}
+use Rattle.net_core.specs.WellFormed.{IsFlat}
 use Rattle.vlog_lex.specs.declared.token.NetFault.{NetFault}
 use Rattle.vlog_lex.specs.declared.token.NetStop.{NetStop}
 use Rattle.vlog_lex.specs.declared.token.NetStop.TheVariants as stops
@@ -11,6 +12,7 @@ use Rattle.vlog_parse.specs.Parsing.{IsRefusal}
 use Rattle.vlog_parse.specs.declared.tree.Tree.{Tree}
 use Rattle.vlog_check.specs.Checked.{IsChecked, IsRefused}
 use Rattle.elab_design.specs.Limits.{IsElabFault}
+use Rattle.elab_design.specs.Elaborates.{Elaborates}
 use Rattle.ila_top.specs.declared.status.Status.{Status}
 use Rattle.ila_top.specs.declared.status.Status.TheVariants.{Netlist as NetStatus, NoFile, ShelfFault, NoMemory}
 use Rattle.ila_top.specs.Reading.{StandsForTree, IsNetOf, IsLoopFault, IsTextFault, no_tokens, no_tree, unchecked, not_unfolded, loops, design_of, status_of}
@@ -44,6 +46,13 @@ module _ (text top clock : List ℕ) where
       → IfErr r (StopsFor (IsElabFault (design_of tree top clock))) → IfErr r (StopsFor (IsTextFault text top clock))
   unfold_refused_by tree (Ok _) stands checked refused = tt
   unfold_refused_by tree (Err stop) stands checked refused = unfold_refused tree stop stands checked refused
+
+  -- what a checked tree is flattened to is the flat netlist of the text's design
+  pub net_of : (tree : Tree) (r : Result Netlist NetStop) → StandsForTree text tree → IsChecked tree top → IfOk r (Elaborates (design_of tree top clock)) → IfOk r IsFlat
+      → OnOk r ((fault : NetFault) → ¬ IsElabFault (design_of tree top clock) fault) → IfOk r (λ flat. (own : Tree) × IsNetOf text (design_of own top clock) flat)
+  net_of tree (Ok flat) stands checked elaborates kept unfolds =
+      (tree, record { stands_for = stands; checked = checked; unfolds = unfolds; flat = kept; elaborates = elaborates })
+  net_of tree (Err stop) stands checked elaborates kept unfolds = tt
 
   pub loop_refused : (tree : Tree) (net : Netlist) (stop : NetStop) → IsNetOf text (design_of tree top clock) net → StopsFor (IsLoopFault net) stop
       → StopsFor (IsTextFault text top clock) stop

@@ -41,8 +41,8 @@ IsHindrance _ = ⊥
 
 -- one fault of a text; of several cycles any may be named
 pub data AreSameFault : NetFault → NetFault → Type 0 where
-  same : (fault : NetFault) → AreSameFault fault fault
-  loops : (names others : List (List ℕ)) (place : Place) → AreSameFault (record { refusal = Loop names; place = place }) (record { refusal = Loop others; place = place })
+  same_fault : (fault : NetFault) → AreSameFault fault fault
+  loop_faults : (names others : List (List ℕ)) (place : Place) → AreSameFault (record { refusal = Loop names; place = place }) (record { refusal = Loop others; place = place })
 
 -- one answer; of several cycles any may be named
 pub data AreSame : Status → Status → Type 0 where
