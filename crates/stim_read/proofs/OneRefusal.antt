@@ -1,7 +1,6 @@
 -- A text of a stimulus is refused for one reason at most, and for none where it stands for rows.
-use Rattle.std.proofs.Common.{◌≡◌, ℕ, ◌+◌, ◌<◌, ◌≤◌, ◌⊎◌, inl, inr, Bool, List, [], ◌∷◌, ◌++◌, length, refl, sym, ◌∙◌, ap, subst, arith, length-append, append-nil, Some}
+use Rattle.std.proofs.Common.{◌≡◌, ℕ, ◌<◌, ◌≤◌, inl, inr, Bool, List, [], ◌∷◌, ◌++◌, length, refl, sym, ◌∙◌, ap, subst, arith, length-append, append-nil}
 use Rattle.std.specs.Prelude.{sum}
-use Rattle.std.specs.Str.Lines.{lines}
 use Rattle.std.proofs.lemmas.Bool.{cases_lt}
 use Rattle.ila_base.specs.declared.refusal.StimRefusal.{StimRefusal}
 use Rattle.ila_base.specs.declared.refusal.StimRefusal.TheVariants.{Header, Line, Limit}
@@ -90,9 +89,9 @@ module _ (inputs : List DataInput) (text : List ℕ) (named : AreNames (names_of
 
   behind_one : (rows others : List (List Bool)) (why other : StimRefusal) → IsRefusedBehind inputs text rows why → IsRefusedBehind inputs text others other → why ≡ other
   behind_one rows others why other first second = elim (cases_lt (length rows) (length others)) [
-    inl fewer ↦ absurd (omega (arith, fewer, not_among rows others why second.order (second.line ∷ second.more) first second.begins fewer, few others second.order second.line other second.refuses))
+    | inl fewer ↦ absurd (omega (arith, fewer, not_among rows others why second.order (second.line ∷ second.more) first second.begins fewer, few others second.order second.line other second.refuses))
     | inr least ↦ elim (cases_lt (length others) (length rows)) [
-      inl fewer ↦ absurd (omega (arith, fewer, not_among others rows other first.order (first.line ∷ first.more) second first.begins fewer, few rows first.order first.line why first.refuses))
+      | inl fewer ↦ absurd (omega (arith, fewer, not_among others rows other first.order (first.line ∷ first.more) second first.begins fewer, few rows first.order first.line why first.refuses))
       | inr most ↦ same_behind (omega (arith, least, most))
     ]
   ]
@@ -132,7 +131,7 @@ module _ (inputs : List DataInput) (text : List ℕ) (named : AreNames (names_of
 
   no_behind : (rows others : List (List Bool)) (why : StimRefusal) → IsStimulus inputs text rows → length rows ≤ most_rows → IsRefusedBehind inputs text others why → ⊥
   no_behind rows others why own few behind = elim (cases_lt (length others) (length rows)) [
-    inl fewer ↦ omega (arith, fewer, few, not_among others rows why own.order [] behind (front_of rows own) fewer)
+    | inl fewer ↦ omega (arith, fewer, few, not_among others rows why own.order [] behind (front_of rows own) fewer)
     | inr most ↦ omega (arith, most, longer)
   ]
     where
@@ -140,9 +139,14 @@ module _ (inputs : List DataInput) (text : List ℕ) (named : AreNames (names_of
       longer =
           let first = behind.begins in
           let same : first.taken ++ behind.line ∷ behind.more ≡ own.body ++ [] = same_lines behind.order own.order others rows (behind.line ∷ behind.more) [] first (front_of rows own) in
-          omega (arith, ap (λ xs. length xs) same, length-append first.taken (behind.line ∷ behind.more), length-append own.body [],
-          row_count (fields_of (widths_of inputs) behind.order) (sum (widths_of inputs)) first.taken others first.each,
-          row_count (fields_of (widths_of inputs) own.order) (sum (widths_of inputs)) own.body rows own.each)
+          omega (
+            arith,
+            ap (λ xs. length xs) same,
+            length-append first.taken (behind.line ∷ behind.more),
+            length-append own.body [],
+            row_count (fields_of (widths_of inputs) behind.order) (sum (widths_of inputs)) first.taken others first.each,
+            row_count (fields_of (widths_of inputs) own.order) (sum (widths_of inputs)) own.body rows own.each,
+          )
 
   pub no_refusal : (rows : List (List Bool)) (why : StimRefusal) → IsStimulus inputs text rows → length rows ≤ most_rows → IsRefused inputs text why → ⊥
   no_refusal rows Header own few refused = refused own.header own.body own.order own.cut own.named

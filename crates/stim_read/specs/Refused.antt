@@ -2,7 +2,7 @@
 use Rattle.std.specs.Prelude.{◌≡◌, ℕ, Bool, List, ◌∷◌, ◌++◌, length, sum, Some}
 use Rattle.std.specs.Str.Lines.{lines}
 use Rattle.ila_base.specs.declared.refusal.StimRefusal.{StimRefusal}
-use Rattle.ila_base.specs.declared.refusal.StimRefusal.TheVariants.{Header, Line, Limit}
+use Rattle.ila_base.specs.declared.refusal.StimRefusal.TheVariants.{Header}
 use Rattle.stim_read.specs.declared.inputs.DataInput.{DataInput}
 use Rattle.stim_read.specs.Stimulus.{IsHeader, AreRows, names_of, widths_of, fields_of}
 use Rattle.stim_read.specs.Reading.{IsSomeRow, RefusesLine, HasNoHeader}

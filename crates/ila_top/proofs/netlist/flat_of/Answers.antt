@@ -31,7 +31,7 @@ pub returns-clause-found : goal.returns-clause-found
 returns-clause-found c =
     let found = c.in_ok-design.ensures.found in
     let B : Tree → List ℕ → Type 0 = λ tree name. IfOk c.flatten.result (Elaborates (record { tree = tree; top = name; clock = c.args.clock.now }))
-        × OnOk c.flatten.result ((fault : NetFault) → ¬ IsElabFault (record { tree = tree; top = name; clock = c.args.clock.now }) fault) in
+    × OnOk c.flatten.result ((fault : NetFault) → ¬ IsElabFault (record { tree = tree; top = name; clock = c.args.clock.now }) fault) in
     let T : Tree → Type 0 = λ tree. B tree c.in_ok-design.design.top in
     let N : List ℕ → Type 0 = λ name. B c.in_ok-tree.tree name in
     let both = subst N found.1 (subst T found.0 (c.flatten.ensures.found, c.flatten.ensures.accepted)) in
