@@ -1,6 +1,6 @@
 -- Where the files and the stimulus are told, two answers whose sentences hold are one; so the answer whose sentence holds comes, unless
 -- something fails.
-use Rattle.std.proofs.Common.{◌≡◌, ℕ, ◌≤◌, ◌<◌, Bool, List, Option, Some, None, ◌⊎◌, inl, inr, refl, sym, ◌∙◌, ap, subst, length, arith}
+use Rattle.std.proofs.Common.{◌≡◌, ℕ, ◌≤◌, Bool, List, Option, Some, None, ◌⊎◌, inl, inr, sym, ◌∙◌, ap, subst, length, arith}
 use Rattle.ila_base.specs.Files.{File}
 use Rattle.ila_base.specs.declared.place.Place.{Place}
 use Rattle.ila_base.specs.declared.refusal.NetRefusal.{NetRefusal}

@@ -1,5 +1,5 @@
 -- The text of a netlist is accepted or refused, and refused for one fault.
-use Rattle.std.proofs.Common.{◌≡◌, ℕ, Bool, true, false, List, Option, Some, None, ◌⊎◌, inl, inr, refl, sym, ◌∙◌, ap, subst}
+use Rattle.std.proofs.Common.{◌≡◌, ℕ, true, false, List, Option, Some, None, ◌⊎◌, inl, inr, sym, ◌∙◌, ap, subst}
 use Rattle.std.proofs.lemmas.Bool.{cases_Bool}
 use Rattle.net_core.specs.declared.parts.Cell.{Cell}
 use Rattle.net_core.specs.Netlist.{Netlist, Parts, parts_of, Drives, Reads, IsData, is_clock, IsClock, IsDriven}

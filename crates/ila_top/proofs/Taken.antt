@@ -20,7 +20,7 @@ use Rattle.design_text.specs.DesignText.{design_inputs, ShowsDesign}
 use Rattle.ila_top.specs.declared.status.Status.{Status}
 use Rattle.ila_top.specs.declared.status.Status.TheVariants.{Stimulus, ReadFault, NoMemory}
 use Rattle.ila_top.specs.Rows.{BeginsIfTold, HasRowsIfTold, RefusesIfTold, ReadsRowsIfTold}
-use Rattle.ila_top.specs.Answers.{Streams, SimAnswer, BeginAnswer, LeavesTrace}
+use Rattle.ila_top.specs.Answers.{Streams, SimAnswer, BeginAnswer}
 
 module _ (inputs : List DataInput) (start : Option (List ℕ)) (reading : Reading) (rows : List (List Bool)) where
   pub rows_begin : (text : Option (List ℕ)) (after : Reading) (later : Option (List ℕ)) → HasBegun inputs text start reading → TakesRows reading start rows after later

@@ -1,6 +1,6 @@
 -- What holds of the netlist's file and of the stimulus for each answer of `sim`, without what the call did: where it holds, and nothing
 -- fails, the answer comes.
-use Rattle.std.specs.Prelude.{◌≡◌, ℕ, Bool, List, ⊤, Option, Some}
+use Rattle.std.specs.Prelude.{◌≡◌, ℕ, Bool, List, ⊤, Some}
 use Rattle.ila_base.specs.Files.{File}
 use Rattle.ila_base.specs.declared.place.Place.{Place}
 use Rattle.ila_base.specs.declared.refusal.NetRefusal.TheVariants.{Loop}
