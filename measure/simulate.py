@@ -31,7 +31,7 @@ def random_logic(cells):
 
 
 def short(number):
-    """A name of few letters."""
+    """Few letters for a number. Behind a q or a z they are no word of Verilog's."""
     digits = "0123456789abcdefghijklmnopqrstuvwxyz"
     text = ""
     while number or not text:
@@ -43,15 +43,15 @@ def short(number):
 def tight_logic(cells):
     """Random logic as above, with LUTs of two inputs, short names and no blanks, so that a million cells fit into a file."""
     draw = random.Random(cells)
-    lines = ["module m(clk,a,y);input clk,a;output y;wire " + ",".join(f"n{short(k)}" for k in range(cells + 1)) + ";buf(n0,a);"]
+    lines = ["module m(clk,a,y);input clk,a;output y;wire " + ",".join(f"q{short(k)}" for k in range(cells + 1)) + ";buf(q0,a);"]
     for k in range(1, cells + 1):
-        name, net = "u" + short(k), "n" + short(k)
+        name, net = "z" + short(k), "q" + short(k)
         if k % 2:
             ins = [short(draw.randrange(k)) for _ in range(2)]
-            lines.append(f"LUT2#(.INIT(4'h{draw.randrange(16):x})){name}(.I0(n{ins[0]}),.I1(n{ins[1]}),.O({net}));")
+            lines.append(f"LUT2#(.INIT(4'h{draw.randrange(16):x})){name}(.I0(q{ins[0]}),.I1(q{ins[1]}),.O({net}));")
         else:
-            lines.append(f"FDRE {name}(.C(clk),.CE(1'b1),.D(n{short(k - 1)}),.Q({net}),.R(1'b0));")
-    return "\n".join(lines + [f"buf(y,n{short(cells)});", "endmodule", ""])
+            lines.append(f"FDRE {name}(.C(clk),.CE(1'b1),.D(q{short(k - 1)}),.Q({net}),.R(1'b0));")
+    return "\n".join(lines + [f"buf(y,q{short(cells)});", "endmodule", ""])
 
 
 def chain(cells):
