@@ -10,7 +10,7 @@ use Rattle.elab_design.specs.Elaborates.{Elaborates}
 use Rattle.ila_top.specs.declared.status.Status.{Status}
 use Rattle.ila_top.specs.declared.status.Status.TheVariants.{Usage, Netlist, NoFile, ShelfFault, NoMemory}
 use Rattle.ila_top.specs.Reading.{IsNetOf, design_of}
-use Rattle.ila_top.specs.Answers.{Outside, SimWords, sim_words, IsLoaded, IsAccepted, SimAnswer, streams_of, SimCause, Cause, LeavesTrace, Leaves}
+use Rattle.ila_top.specs.Answers.{Outside, SimWords, sim_words, IsLoaded, IsAccepted, SimAnswer, streams_in, SimCause, Cause, LeavesTrace, Leaves}
 
 module _ (sim : SimWords) (before after : Outside) (bytes : List ℕ) (tree : Tree) (net : Net) (loaded : IsLoaded before sim bytes)
     (own : IsNetOf bytes (design_of tree sim.top sim.clock) net) where
@@ -22,13 +22,13 @@ module _ (sim : SimWords) (before after : Outside) (bytes : List ℕ) (tree : Tr
 
   -- what is answered of each top of each such design
   abbrev Answers : Status → Type 0
-  Answers status = (d : Design) (top : Module) → IsChecked d.tree d.top → IsTop d top → Elaborates d net → SimAnswer d top (streams_of before) (streams_of after) status
+  Answers status = (d : Design) (top : Module) → IsChecked d.tree d.top → IsTop d top → Elaborates d net → SimAnswer d top (streams_in before) (streams_in after) status
 
-  answer : (status : Status) → Answers status → SimAnswer (design_of tree sim.top sim.clock) the_top (streams_of before) (streams_of after) status
+  answer : (status : Status) → Answers status → SimAnswer (design_of tree sim.top sim.clock) the_top (streams_in before) (streams_in after) status
   answer status answers = answers (design_of tree sim.top sim.clock) the_top own.checked own.elaborates.order.is_top own.elaborates
 
   pub simulated : (status : Status) → ¬ HasCycle net
-      → ((d : Design) (top : Module) → IsChecked d.tree d.top → IsTop d top → Elaborates d net → SimAnswer d top (streams_of before) (streams_of after) status)
+      → ((d : Design) (top : Module) → IsChecked d.tree d.top → IsTop d top → Elaborates d net → SimAnswer d top (streams_in before) (streams_in after) status)
       → SimCause sim before after status
   simulated (Netlist refusal place) no_cycle answers = absurd (answer (Netlist refusal place) answers)
   simulated (NoFile name) no_cycle answers = absurd (answer (NoFile name) answers)
@@ -37,7 +37,7 @@ module _ (sim : SimWords) (before after : Outside) (bytes : List ℕ) (tree : Tr
   simulated status no_cycle answers = (tree, the_top, accepted no_cycle, answer status answers)
 
   pub leaves_after : (status : Status)
-      → ((d : Design) (top : Module) → IsChecked d.tree d.top → IsTop d top → Elaborates d net → SimAnswer d top (streams_of before) (streams_of after) status)
+      → ((d : Design) (top : Module) → IsChecked d.tree d.top → IsTop d top → Elaborates d net → SimAnswer d top (streams_in before) (streams_in after) status)
       → LeavesTrace before.written after.written status → Leaves before after status
   leaves_after Usage answers leaves = absurd (answer Usage answers)
   leaves_after (Netlist refusal place) answers leaves = absurd (answer (Netlist refusal place) answers)

@@ -25,7 +25,7 @@ use Rattle.ila_top.specs.declared.status.Status.TheVariants.{Done, Usage, Netlis
 use Rattle.ila_top.specs.Reading.{StandsForTree, IsTextFault, IsAcceptedText, design_of}
 use Rattle.ila_top.specs.Rows.{HasRowsIfTold}
 use Rattle.ila_top.specs.Answers.{Outside, SimWords, sim_words, most_bytes, HoldsIfTold, LacksIfTold, LongerIfTold, IsLoaded, NetCause, IsAccepted, IsStimRefusal, SimCause, Cause}
-use Rattle.ila_top.specs.Sentences.{IsTold, Sentence, IsHindrance, AreSameFault, same_fault, loop_faults, AreSame, same, loops}
+use Rattle.ila_top.specs.Sentences.{IsTold, Sentence, IsHindrance, AreSame, same}
 use Rattle.ila_top.proofs.OneText.{TextLaws, same_tree, accepted_clear, one_fault}
 
 -- what the steps below say of one text and one stimulus
@@ -61,10 +61,6 @@ refused_from : (inputs : List DataInput) (text : List ℕ) (why : StimRefusal) �
 refused_from inputs text Header refused = refused
 refused_from inputs text (Line n) refused = refused
 refused_from inputs text (Limit n) refused = refused
-
-to_answer : (fault other : NetFault) → AreSameFault fault other → AreSame (Netlist fault.refusal fault.place) (Netlist other.refusal other.place)
-to_answer _ _ (same_fault fault) = same (Netlist fault.refusal fault.place)
-to_answer _ _ (loop_faults names others place) = loops names others place
 
 same_answer : (one other : Status) → one ≡ other → AreSame one other
 same_answer one other is = subst (AreSame one) is (same one)
@@ -122,8 +118,7 @@ module _ (laws : AnswerLaws) (sim : SimWords) (before : Outside) (told : IsTold 
       let one : NetFault = record { refusal = refusal; place = place } in
       let more : NetFault = record { refusal = other; place = also } in
       let bytes : first.0 ≡ second.0 = loaded first.0 second.0 first.1 second.1 in
-      to_answer one more (one_fault laws.texts second.0 sim.top sim.clock one more
-      (subst (λ b. IsTextFault b sim.top sim.clock one) bytes first.2) second.2)
+      one_fault laws.texts second.0 sim.top sim.clock one more (subst (λ b. IsTextFault b sim.top sim.clock one) bytes first.2) second.2
 
   cause_or_accepted : (refusal : NetRefusal) (place : Place) (tree : Tree) (top : Module) → NetCause sim before refusal place → IsAccepted sim before (the_design tree) top → ⊥
   cause_or_accepted refusal place tree top (inl long) own = longer before.files told.files sim.netlist own.bytes told.has_files long.2 own.loaded.0 own.loaded.1

@@ -5,6 +5,7 @@ use Rattle.net_core.specs.declared.parts.Cell.{Cell}
 use Rattle.net_core.specs.Netlist.{Netlist, Parts, parts_of, Drives, Reads, IsData, is_clock, IsClock, IsDriven}
 use Rattle.net_core.specs.WellFormed.{IsFlat}
 use Rattle.net_core.specs.Cycle.{Feeds, IsCycle, HasCycle}
+use Rattle.ila_base.specs.declared.refusal.NetRefusal.TheVariants.{Loop}
 use Rattle.vlog_lex.specs.declared.token.Token.{Token}
 use Rattle.vlog_lex.specs.declared.token.NetFault.{NetFault}
 use Rattle.vlog_lex.specs.Cutting.{IsReading}
@@ -16,7 +17,9 @@ use Rattle.elab_design.specs.Design.{Design}
 use Rattle.elab_design.specs.Limits.{IsElabFault}
 use Rattle.elab_design.specs.Elaborates.{Elaborates}
 use Rattle.ila_top.specs.Reading.{StandsForTree, IsNetOf, IsLoopFault, IsTextFault, no_tokens, no_tree, unchecked, not_unfolded, loops, IsAcceptedText, design_of, nowhere}
-use Rattle.ila_top.specs.Sentences.{AreSameFault, same_fault, loop_faults}
+use Rattle.ila_top.specs.declared.status.Status.{Status}
+use Rattle.ila_top.specs.declared.status.Status.TheVariants.{Netlist as RefusedNetlist}
+use Rattle.ila_top.specs.Sentences.{AreSame, same, cycles}
 
 -- what the steps below say of one text: one list of tokens, one tree, one refusal each, one flat netlist
 pub record TextLaws : Type 0 where
@@ -66,12 +69,17 @@ module _ (net other : Netlist) (flat : IsFlat net) (also : IsFlat other) (same :
     feeds_first = λ i m n last at first. feeds_on m n (cycle.feeds_first i m n last at first);
   }
 
-to_same : (fault other : NetFault) → fault ≡ other → AreSameFault fault other
-to_same fault other is = subst (AreSameFault fault) is (same_fault fault)
+-- the answer to a text with this fault
+abbrev pub answer_to : NetFault → Status
+answer_to fault = RefusedNetlist fault.refusal fault.place
 
-loop_same : (net also : Netlist) (fault other : NetFault) → IsLoopFault net fault → IsLoopFault also other → AreSameFault fault other
+to_same : (fault other : NetFault) → fault ≡ other → AreSame (answer_to fault) (answer_to other)
+to_same fault other is = subst (λ f. AreSame (answer_to fault) (answer_to f)) is (same (answer_to fault))
+
+loop_same : (net also : Netlist) (fault other : NetFault) → IsLoopFault net fault → IsLoopFault also other → AreSame (answer_to fault) (answer_to other)
 loop_same net also fault other first second =
-    subst (λ f. AreSameFault f other) (sym first.is) (subst (AreSameFault _) (sym second.is) (loop_faults first.names second.names nowhere))
+    subst (λ f. AreSame (answer_to f) (answer_to other)) (sym first.is)
+    (subst (λ f. AreSame (RefusedNetlist (Loop first.names) nowhere) (answer_to f)) (sym second.is) (cycles first.names second.names nowhere))
 
 module _ (laws : TextLaws) (text : List ℕ) where
   -- a text with a fault in its bytes has no tokens to its end
@@ -129,7 +137,7 @@ module _ (laws : TextLaws) (text : List ℕ) where
         laws.elaboration (design_of also top clock) fault other checked
         (subst (λ (t : Tree). IsElabFault (design_of t top clock) fault) (same_tree tree also stands again) first) second
 
-    pub one_fault : (fault other : NetFault) → IsTextFault text top clock fault → IsTextFault text top clock other → AreSameFault fault other
+    pub one_fault : (fault other : NetFault) → IsTextFault text top clock fault → IsTextFault text top clock other → AreSame (answer_to fault) (answer_to other)
     one_fault fault other (no_tokens tokens reads) (no_tokens others also) =
         to_same fault other (let e : Some fault ≡ Some other = (laws.reading text tokens others (Some fault) (Some other) reads also).1 in cc e)
     one_fault fault other (no_tokens tokens reads) (no_tree others also _) = absurd (cut_off tokens others fault reads also)

@@ -5,6 +5,9 @@ use Rattle.std.specs.Io.KnownBytes.{Keeps, Appends, IsAtEnd}
 use Rattle.ila_base.specs.Faults.{Rose, AppendsFront}
 use Rattle.ila_top.specs.ErrorLine.{error_line}
 use Rattle.ila_base.specs.Files.{File, file_of, KeepsFiles}
+use Rattle.ila_base.specs.declared.outside.Shelf as shelves
+use Rattle.ila_base.specs.declared.outside.Sink as sinks
+use Rattle.ila_base.specs.declared.outside.Source as sources
 use Rattle.ila_base.specs.declared.place.Place.{Place}
 use Rattle.ila_base.specs.declared.refusal.LimitKind.TheVariants as limits
 use Rattle.ila_base.specs.declared.refusal.NetRefusal.{NetRefusal}
@@ -32,6 +35,17 @@ pub record Outside : Type 0 where
   pub read_faults : ℕ
   pub written : Option (List ℕ)
   pub write_faults : ℕ
+
+-- the outside as a shelf, a stimulus and a trace tell it
+abbrev pub outside_of : {H S K : Type 0} → shelves.Ghosts H → sources.Ghosts S → sinks.Ghosts K → H → S → K → Outside
+outside_of on_shelf on_source on_sink shelf stimulus trace = record {
+  files = on_shelf.files shelf;
+  shelf_faults = on_shelf.faults shelf;
+  left = on_source.left stimulus;
+  read_faults = on_source.faults stimulus;
+  written = on_sink.written trace;
+  write_faults = on_sink.faults trace;
+}
 
 -- the words behind `sim`
 pub record SimWords : Type 0 where
@@ -126,8 +140,17 @@ pub record Streams : Type 0 where
   pub written : Option (List ℕ)
   pub write_faults : ℕ
 
-abbrev pub streams_of : Outside → Streams
-streams_of o = record { left = o.left; read_faults = o.read_faults; written = o.written; write_faults = o.write_faults }
+-- both as a stimulus and a trace tell it
+abbrev pub streams_of : {S K : Type 0} → sources.Ghosts S → sinks.Ghosts K → S → K → Streams
+streams_of on_source on_sink stimulus trace = record {
+  left = on_source.left stimulus;
+  read_faults = on_source.faults stimulus;
+  written = on_sink.written trace;
+  write_faults = on_sink.faults trace;
+}
+
+abbrev pub streams_in : Outside → Streams
+streams_in o = record { left = o.left; read_faults = o.read_faults; written = o.written; write_faults = o.write_faults }
 
 -- Of the stimulus not even the first line was read whole, and the trace is as it was.
 abbrev pub IsBarelyRead : Streams → Streams → Type 0
@@ -168,7 +191,7 @@ SimCause sim before after (NoFile name) = (name ≡ sim.netlist) × LacksIfTold 
 SimCause sim before after ShelfFault = Rose before.shelf_faults after.shelf_faults
 SimCause sim before after NoMemory = ⊤
 SimCause sim before after status = (tree : Tree) × (top : Module) × IsAccepted sim before (design_of tree sim.top sim.clock) top
-    × SimAnswer (design_of tree sim.top sim.clock) top (streams_of before) (streams_of after) status
+    × SimAnswer (design_of tree sim.top sim.clock) top (streams_in before) (streams_in after) status
 
 -- the line that the stimulus is refused at: its header, or one behind rows
 abbrev pub IsStimRefusal : List DataInput → Option (List ℕ) → StimRefusal → Type 0

@@ -4,7 +4,6 @@ use Rattle.std.specs.Prelude.{◌≡◌, ℕ, Bool, List, ⊤, Some}
 use Rattle.ila_base.specs.Files.{File}
 use Rattle.ila_base.specs.declared.place.Place.{Place}
 use Rattle.ila_base.specs.declared.refusal.NetRefusal.TheVariants.{Loop}
-use Rattle.vlog_lex.specs.declared.token.NetFault.{NetFault}
 use Rattle.vlog_parse.specs.declared.tree.Tree.{Tree}
 use Rattle.vlog_parse.specs.declared.tree.Module.{Module}
 use Rattle.design_text.specs.DesignText.{design_inputs}
@@ -39,12 +38,7 @@ IsHindrance WriteFault = ⊤
 IsHindrance NoMemory = ⊤
 IsHindrance _ = ⊥
 
--- one fault of a text; of several cycles any may be named
-pub data AreSameFault : NetFault → NetFault → Type 0 where
-  same_fault : (fault : NetFault) → AreSameFault fault fault
-  loop_faults : (names others : List (List ℕ)) (place : Place) → AreSameFault (record { refusal = Loop names; place = place }) (record { refusal = Loop others; place = place })
-
 -- one answer; of several cycles any may be named
 pub data AreSame : Status → Status → Type 0 where
   same : (status : Status) → AreSame status status
-  loops : (names others : List (List ℕ)) (place : Place) → AreSame (Netlist (Loop names) place) (Netlist (Loop others) place)
+  cycles : (names others : List (List ℕ)) (place : Place) → AreSame (Netlist (Loop names) place) (Netlist (Loop others) place)

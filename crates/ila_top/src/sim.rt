@@ -1,6 +1,6 @@
 ghost use Rattle.std.specs.Prelude.{◌≡◌, ◌≤◌};
 ghost use Rattle.ila_top.specs.Reading.{status_of};
-ghost use Rattle.ila_top.specs.Answers.{SimCause, Stands};
+ghost use Rattle.ila_top.specs.Answers.{outside_of, SimCause, Stands};
 
 use crate::form::Sim;
 use crate::load::load_netlist;
@@ -20,12 +20,12 @@ pub fn sim<H: Shelf, S: Source, K: Sink>(
     trace: &mut K,
 ) -> Status
     ensures cause { SimCause (record { netlist = words.now.netlist.now; top = words.now.top.now; clock = words.now.clock.now })
-        (record { files = H.files shelf.old; shelf_faults = H.faults shelf.old; left = S.left stimulus.old; read_faults = S.faults stimulus.old; written = K.written trace.old; write_faults = K.faults trace.old })
-        (record { files = H.files shelf.new; shelf_faults = H.faults shelf.new; left = S.left stimulus.new; read_faults = S.faults stimulus.new; written = K.written trace.new; write_faults = K.faults trace.new })
+        (outside_of H.Shelf S.Source K.Sink shelf.old stimulus.old trace.old)
+        (outside_of H.Shelf S.Source K.Sink shelf.new stimulus.new trace.new)
         result }
     ensures stands { Stands
-        (record { files = H.files shelf.old; shelf_faults = H.faults shelf.old; left = S.left stimulus.old; read_faults = S.faults stimulus.old; written = K.written trace.old; write_faults = K.faults trace.old })
-        (record { files = H.files shelf.new; shelf_faults = H.faults shelf.new; left = S.left stimulus.new; read_faults = S.faults stimulus.new; written = K.written trace.new; write_faults = K.faults trace.new })
+        (outside_of H.Shelf S.Source K.Sink shelf.old stimulus.old trace.old)
+        (outside_of H.Shelf S.Source K.Sink shelf.new stimulus.new trace.new)
         result }
 {
     let bytes = match load_netlist(alloc, shelf, words.netlist) {

@@ -11,7 +11,7 @@ ghost use Rattle.stim_read.specs.Reading.{Begins};
 ghost use Rattle.stim_read.specs.Streams.{IsDrained};
 ghost use Rattle.elab_design.specs.Design.{Design, IsTop};
 ghost use Rattle.elab_design.specs.Elaborates.{Elaborates};
-ghost use Rattle.ila_top.specs.Answers.{SimAnswer, BeginAnswer, LeavesTrace};
+ghost use Rattle.ila_top.specs.Answers.{streams_of, SimAnswer, BeginAnswer, LeavesTrace};
 
 use crate::status::Status;
 use clock_sim::Plain;
@@ -51,8 +51,8 @@ pub fn simulate<S: Source, K: Sink>(
     requires flat { IsFlat flat.now }
     requires levels { AreLevels flat.now levels.now }
     ensures answers { (d : Design) (top : ModuleOf) → IsChecked d.tree d.top → IsTop d top → Elaborates d flat.now → SimAnswer d top
-        (record { left = S.left stimulus.old; read_faults = S.faults stimulus.old; written = K.written trace.old; write_faults = K.faults trace.old })
-        (record { left = S.left stimulus.new; read_faults = S.faults stimulus.new; written = K.written trace.new; write_faults = K.faults trace.new })
+        (streams_of S.Source K.Sink stimulus.old trace.old)
+        (streams_of S.Source K.Sink stimulus.new trace.new)
         result }
     ensures leaves { LeavesTrace (K.written trace.old) (K.written trace.new) result }
     ensures read_later { S.faults stimulus.old ≤ S.faults stimulus.new }

@@ -1,5 +1,5 @@
 ghost use Rattle.std.specs.Prelude.{◌≡◌, ◌≤◌, ◌⊎◌, [], map, Some, string_bytes};
-ghost use Rattle.ila_top.specs.Answers.{SimWords, sim_words, Cause, IsClear, IsDone, Stands, IsReported};
+ghost use Rattle.ila_top.specs.Answers.{SimWords, outside_of, sim_words, Cause, IsClear, IsDone, Stands, IsReported};
 ghost use Rattle.ila_top.specs.Sentences.{IsTold, Sentence, IsHindrance, AreSame};
 ghost use Rattle.ila_top.specs.declared.status.Status.{Status as StatusOf};
 
@@ -20,20 +20,20 @@ fn answer<H: Shelf, S: Source, K: Sink>(
     trace: &mut K,
 ) -> Status
     ensures cause { Cause (map string_bytes words.now)
-        (record { files = H.files shelf.old; shelf_faults = H.faults shelf.old; left = S.left stimulus.old; read_faults = S.faults stimulus.old; written = K.written trace.old; write_faults = K.faults trace.old })
-        (record { files = H.files shelf.new; shelf_faults = H.faults shelf.new; left = S.left stimulus.new; read_faults = S.faults stimulus.new; written = K.written trace.new; write_faults = K.faults trace.new })
+        (outside_of H.Shelf S.Source K.Sink shelf.old stimulus.old trace.old)
+        (outside_of H.Shelf S.Source K.Sink shelf.new stimulus.new trace.new)
         result }
     ensures comes { (sim : SimWords) (status : StatusOf) → sim_words (map string_bytes words.now) ≡ Some sim
-        → IsTold (record { files = H.files shelf.old; shelf_faults = H.faults shelf.old; left = S.left stimulus.old; read_faults = S.faults stimulus.old; written = K.written trace.old; write_faults = K.faults trace.old })
-        → Sentence sim (record { files = H.files shelf.old; shelf_faults = H.faults shelf.old; left = S.left stimulus.old; read_faults = S.faults stimulus.old; written = K.written trace.old; write_faults = K.faults trace.old }) status
+        → IsTold (outside_of H.Shelf S.Source K.Sink shelf.old stimulus.old trace.old)
+        → Sentence sim (outside_of H.Shelf S.Source K.Sink shelf.old stimulus.old trace.old) status
         → IsHindrance result ⊎ AreSame status result }
     ensures complete { (sim : SimWords) → sim_words (map string_bytes words.now) ≡ Some sim → IsClear sim
-        (record { files = H.files shelf.old; shelf_faults = H.faults shelf.old; left = S.left stimulus.old; read_faults = S.faults stimulus.old; written = K.written trace.old; write_faults = K.faults trace.old })
-        (record { files = H.files shelf.new; shelf_faults = H.faults shelf.new; left = S.left stimulus.new; read_faults = S.faults stimulus.new; written = K.written trace.new; write_faults = K.faults trace.new })
+        (outside_of H.Shelf S.Source K.Sink shelf.old stimulus.old trace.old)
+        (outside_of H.Shelf S.Source K.Sink shelf.new stimulus.new trace.new)
         → IsDone result }
     ensures stands { Stands
-        (record { files = H.files shelf.old; shelf_faults = H.faults shelf.old; left = S.left stimulus.old; read_faults = S.faults stimulus.old; written = K.written trace.old; write_faults = K.faults trace.old })
-        (record { files = H.files shelf.new; shelf_faults = H.faults shelf.new; left = S.left stimulus.new; read_faults = S.faults stimulus.new; written = K.written trace.new; write_faults = K.faults trace.new })
+        (outside_of H.Shelf S.Source K.Sink shelf.old stimulus.old trace.old)
+        (outside_of H.Shelf S.Source K.Sink shelf.new stimulus.new trace.new)
         result }
 {
     one_answer();
@@ -56,26 +56,26 @@ pub fn ila<H: Shelf, S: Source, K: Sink, E: Sink>(
 ) -> Status
     // Each answer comes only with its cause, Usage exactly where the words are of no command.
     ensures cause { Cause (map string_bytes words.now)
-        (record { files = H.files shelf.old; shelf_faults = H.faults shelf.old; left = S.left stimulus.old; read_faults = S.faults stimulus.old; written = K.written trace.old; write_faults = K.faults trace.old })
-        (record { files = H.files shelf.new; shelf_faults = H.faults shelf.new; left = S.left stimulus.new; read_faults = S.faults stimulus.new; written = K.written trace.new; write_faults = K.faults trace.new })
+        (outside_of H.Shelf S.Source K.Sink shelf.old stimulus.old trace.old)
+        (outside_of H.Shelf S.Source K.Sink shelf.new stimulus.new trace.new)
         result }
     // Where the files and the stimulus are told, the answer whose sentence holds comes, but for a fault or
     // want of memory: Done where the netlist is accepted and the stimulus has rows alone, and each refusal
     // where its sentence holds. Of several cycles any may be named.
     ensures comes { (sim : SimWords) (status : StatusOf) → sim_words (map string_bytes words.now) ≡ Some sim
-        → IsTold (record { files = H.files shelf.old; shelf_faults = H.faults shelf.old; left = S.left stimulus.old; read_faults = S.faults stimulus.old; written = K.written trace.old; write_faults = K.faults trace.old })
-        → Sentence sim (record { files = H.files shelf.old; shelf_faults = H.faults shelf.old; left = S.left stimulus.old; read_faults = S.faults stimulus.old; written = K.written trace.old; write_faults = K.faults trace.old }) status
+        → IsTold (outside_of H.Shelf S.Source K.Sink shelf.old stimulus.old trace.old)
+        → Sentence sim (outside_of H.Shelf S.Source K.Sink shelf.old stimulus.old trace.old) status
         → IsHindrance result ⊎ AreSame status result }
     // Where the words are those of `sim`, no sentence of a refusal holds and no count has risen, it is
     // done, or memory wasn't found.
     ensures complete { (sim : SimWords) → sim_words (map string_bytes words.now) ≡ Some sim → IsClear sim
-        (record { files = H.files shelf.old; shelf_faults = H.faults shelf.old; left = S.left stimulus.old; read_faults = S.faults stimulus.old; written = K.written trace.old; write_faults = K.faults trace.old })
-        (record { files = H.files shelf.new; shelf_faults = H.faults shelf.new; left = S.left stimulus.new; read_faults = S.faults stimulus.new; written = K.written trace.new; write_faults = K.faults trace.new })
+        (outside_of H.Shelf S.Source K.Sink shelf.old stimulus.old trace.old)
+        (outside_of H.Shelf S.Source K.Sink shelf.new stimulus.new trace.new)
         → IsDone result }
     // What stands of files, stimulus and trace after each answer.
     ensures stands { Stands
-        (record { files = H.files shelf.old; shelf_faults = H.faults shelf.old; left = S.left stimulus.old; read_faults = S.faults stimulus.old; written = K.written trace.old; write_faults = K.faults trace.old })
-        (record { files = H.files shelf.new; shelf_faults = H.faults shelf.new; left = S.left stimulus.new; read_faults = S.faults stimulus.new; written = K.written trace.new; write_faults = K.faults trace.new })
+        (outside_of H.Shelf S.Source K.Sink shelf.old stimulus.old trace.old)
+        (outside_of H.Shelf S.Source K.Sink shelf.new stimulus.new trace.new)
         result }
     // The error line, whole where the error sink has no fault.
     ensures line { IsReported (E.written errors.old) (E.written errors.new) (E.faults errors.old) (E.faults errors.new) result [] }

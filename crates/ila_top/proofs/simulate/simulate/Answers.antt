@@ -2,7 +2,7 @@ use Rattle.std.proofs.Common.{List, Err, inr, refl, ap, subst}
 use Rattle.std.proofs.KnownBytes.{Keeps-refl}
 use Rattle.stim_read.specs.declared.inputs.DataInput.{DataInput}
 use Rattle.stim_read.specs.Ports as ports
-use Rattle.ila_top.specs.Answers.{Streams}
+use Rattle.ila_top.specs.Answers.{Streams, streams_of}
 use Rattle.ila_top.specs.Rows.{BeginsIfTold, HasRowsIfTold, RefusesIfTold, ReadsRowsIfTold}
 use Rattle.ila_top.proofs.Taken.{rows_begin, rows_read, rows_all, rows_refused, only_behind, behind_header, answer_refused, answer_begin, rose_since}
 use Rattle.ila_top.proofs.simulate.simulate.Goals as goal
@@ -35,8 +35,8 @@ returns-in-Err-Stimulus-clause-answers g c = λ d top checked is_top own.
     rows_refused (ports.data_inputs c.args.flat.now) (g.S.Source.left c.begin.new.stimulus) c.in-Ok-begin.stim refused.0 (g.S.Source.left c.args.stimulus.now)
     c.in-Err-Stimulus.why c.in-Ok-begin.ensures.begun behind in
     let I : List DataInput → Type 0 = λ inputs. RefusesIfTold inputs (g.S.Source.left c.args.stimulus.now) refused.0 c.in-Err-Stimulus.why in
-    let before : Streams = record { left = g.S.Source.left c.args.stimulus.now; read_faults = g.S.Source.faults c.args.stimulus.now; written = g.K.Sink.written c.args.trace.now; write_faults = g.K.Sink.faults c.args.trace.now } in
-    let after : Streams = record { left = g.S.Source.left c.show.new.source; read_faults = g.S.Source.faults c.show.new.source; written = g.K.Sink.written c.show.new.trace; write_faults = g.K.Sink.faults c.show.new.trace } in
+    let before : Streams = streams_of g.S.Source g.K.Sink c.args.stimulus.now c.args.trace.now in
+    let after : Streams = streams_of g.S.Source g.K.Sink c.show.new.source c.show.new.trace in
     answer_refused d top before after c.in-Err-Stimulus.why (behind_header c.in-Ok-begin.stim (g.S.Source.left c.begin.new.stimulus) refused.0 c.in-Err-Stimulus.why behind) refused.0
     (subst I same told) (c.shows_design.ensures.whole d c.args.flat.now checked c.requires.flat own refused.0 refused.2.history refused.2.one _ _ refused.3)
 
