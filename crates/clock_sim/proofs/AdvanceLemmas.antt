@@ -1,21 +1,17 @@
--- One cell more has the stored bits of the next clock.
-use Rattle.std.proofs.Common.{◌≡◌, ℕ, zero, suc, ◌+◌, ◌-◌, ◌*◌, ◌/◌, ◌%◌, ◌^◌, ◌<◌, ◌≤◌, Bool, true, false, ◌&&◌, List, [], ◌∷◌, length, get_or, take, drop, slice_get, slice_range, Some, refl, ap, sym, ◌∙◌, arith, inl, inr, ◌⊎◌, if◌then◌else◌, ◌==◌}
+-- One register more has the stored bits of the next clock.
+use Rattle.std.proofs.Common.{◌≡◌, ℕ, zero, suc, ◌+◌, ◌-◌, ◌*◌, ◌/◌, ◌%◌, ◌^◌, ◌<◌, ◌≤◌, Bool, true, false, ◌&&◌, List, [], ◌∷◌, length, get_or, take, drop, slice_get, slice_range, Some, refl, ap, sym, ◌∙◌, subst, arith, inl, inr, ◌⊎◌, if◌then◌else◌, ◌==◌}
 use Rattle.std.proofs.lemmas.Bool.{cases_eq, cases_lt, false_from_ne_true}
 use Rattle.std.proofs.lemmas.Bool.Decides.{Decides-eqb}
 use Rattle.std.proofs.lemmas.List.Sums.{sum_by-cons}
 use Rattle.std.proofs.lemmas.Option.{same_Some}
 use Rattle.std.proofs.Math.Nat.{mul-le-mul_left}
-use Rattle.net_core.specs.declared.kind.CellKind.{CellKind}
 use Rattle.net_core.specs.declared.kind.CellKind.TheVariants.{Mem}
 use Rattle.net_core.specs.declared.parts.Cell.{Cell}
 use Rattle.net_core.specs.CellTable.{pin, binary, content_size, next_content}
-use Rattle.net_core.specs.Netlist.{Netlist}
-use Rattle.net_core.specs.Run.{input_pins}
 use Rattle.net_core.proofs.DependLemmas.{next_same}
 use Rattle.clock_sim.specs.declared.plan.Row.{Row}
-use Rattle.clock_sim.specs.Reading.{bit_at_place, net_bit, read_all}
-use Rattle.clock_sim.specs.Plan.{base_of, stored_bit, IsRow, HasRows, AdvancesRow, WritesRow, IsAdvancedTo}
-use Rattle.clock_sim.proofs.SettleLemmas.{read_pins}
+use Rattle.clock_sim.specs.Reading.{bit_at_place, read_all}
+use Rattle.clock_sim.specs.Plan.{base_of, AreApart, AdvancesRow, WritesRow, IsAdvancedTo}
 
 pub there_is : {A : Type 0} (xs : List A) (i : ℕ) → i < length xs → (x : A) × (slice_get xs i ≡ Some x)
 there_is [] i low = absurd (omega (arith, low))
@@ -51,42 +47,34 @@ base_rises (first ∷ cells) (suc c) (suc d) low =
 pub base_apart : (cells : List Cell) (c d : ℕ) (cell : Cell) → slice_get cells c ≡ Some cell → c < d → base_of cells c + content_size cell.kind ≤ base_of cells d
 base_apart cells c d cell at low = omega (arith, base_more cells c cell at, base_rises cells (c + 1) d (omega (arith, low)))
 
-pub advanced_none : (net : Netlist) (values old : List Bool) → IsAdvancedTo net values 0 old old
-advanced_none net values old = record { size = refl; next = λ c cell k low at stores. absurd (omega (arith, low)); later = λ k high. refl }
+pub advanced_none : (values : List Bool) (pins : List ℕ) (registers : List Row) (old : List Bool) → IsAdvancedTo values pins registers 0 old old
+advanced_none values pins registers old = record { size = refl; next = λ j row k low at stores. absurd (omega (arith, low)); kept = λ k free. refl }
 
-pub advanced_more : (net : Netlist) (values : List Bool) (places : List ℕ) (rows : List Row) → HasRows net values places rows → (i : ℕ) (row : Row) (old now new : List Bool) → slice_get rows i ≡ Some row
-    → i < length rows → AdvancesRow row.kind row.base (read_all values (slice_range places row.first row.last)) now new → IsAdvancedTo net values i old now → IsAdvancedTo net values (i + 1) old new
-advanced_more net values places rows has i row old now new at low step so_far = record {
+pub advanced_more : (values : List Bool) (pins : List ℕ) (registers : List Row) → AreApart registers → (i : ℕ) (row : Row) (old now new : List Bool) → slice_get registers i ≡ Some row
+    → AdvancesRow row.kind row.base (read_all values (slice_range pins row.first row.last)) now new → IsAdvancedTo values pins registers i old now → IsAdvancedTo values pins registers (i + 1) old new
+advanced_more values pins registers apart i row old now new at step so_far = record {
   size = step.size ∙ so_far.size;
   next = next;
-  later = λ k high. step.outside k (inr (omega (arith, own.base, kind, base_more net.cells i cell.0 cell.1, high)))
-      ∙ so_far.later k (omega (arith, base_more net.cells i cell.0 cell.1, high));
+  kept = λ k free. step.outside k (free i row (omega arith) at) ∙ so_far.kept k (λ j other low there. free j other (omega (arith, low)) there);
 }
   where
-    cell : (cell : Cell) × (slice_get net.cells i ≡ Some cell)
-    cell = there_is net.cells i (omega (arith, low, has.size))
+    -- the register's own bits are still the old ones
+    own_old : (k : ℕ) → bit_at_place now (row.base + k) ≡ bit_at_place old (row.base + k)
+    own_old k = so_far.kept (row.base + k) (λ j other low there. inr (omega (arith, apart j i other row there at low)))
 
-    own : IsRow net places i cell.0 row
-    own = has.row_each i cell.0 row cell.1 at
-
-    kind : content_size row.kind ≡ content_size cell.0.kind
-    kind = ap content_size own.kind
-
-    next : (c : ℕ) (o : Cell) (k : ℕ) → c < i + 1 → slice_get net.cells c ≡ Some o → k < content_size o.kind
-        → stored_bit net.cells new c k ≡ next_content o.kind (input_pins (net_bit values) o) (stored_bit net.cells old c) k
-    next c o k below there stores = elim (cases_eq c i) [
+    next : (j : ℕ) (other : Row) (k : ℕ) → j < i + 1 → slice_get registers j ≡ Some other → k < content_size other.kind
+        → bit_at_place new (other.base + k) ≡ next_content other.kind (read_all values (slice_range pins other.first other.last)) (λ b. bit_at_place old (other.base + b)) k
+    next j other k below there stores = elim (cases_eq j i) [
       | inl same ↦ (
-          let is : o ≡ cell.0 = same_Some _ _ (sym there ∙ ap (slice_get net.cells) same ∙ cell.1) in
-          let size : content_size o.kind ≡ content_size row.kind = ap (λ (p : Cell). content_size p.kind) is ∙ sym kind in
-          let place : base_of net.cells c + k ≡ row.base + k = ap (λ j. base_of net.cells j + k) same ∙ ap (λ j. j + k) (sym own.base) in
-          ap (bit_at_place new) place ∙ step.inside k (omega (arith, stores, size))
-          ∙ ap (λ (kind : CellKind). next_content kind (read_all values (slice_range places row.first row.last)) (λ j. bit_at_place now (row.base + j)) k) (own.kind ∙ ap (λ (p : Cell). p.kind) (sym is))
-          ∙ next_same o.kind (read_all values (slice_range places row.first row.last)) (input_pins (net_bit values) o) (λ j. bit_at_place now (row.base + j)) (stored_bit net.cells old c) k
-          (ap (read_all values) own.places ∙ read_pins values cell.0.ins has.constants.zero_place has.constants.one_place ∙ ap (λ (p : Cell). input_pins (net_bit values) p) (sym is))
-          (so_far.later (row.base + k) (omega (arith, own.base)) ∙ ap (bit_at_place old) (sym place)))
-      | inr other ↦ (
-          let early : c < i = omega (arith, below, other) in
-          step.outside (base_of net.cells c + k) (inl (omega (arith, own.base, base_apart net.cells c i o there early, stores))) ∙ so_far.next c o k early there stores)
+          let is : row ≡ other = same_Some _ _ (sym at ∙ ap (slice_get registers) (sym same) ∙ there) in
+          let size : content_size row.kind ≡ content_size other.kind = ap (λ (o : Row). content_size o.kind) is in
+          let own : bit_at_place new (row.base + k) ≡ next_content row.kind (read_all values (slice_range pins row.first row.last)) (λ b. bit_at_place old (row.base + b)) k =
+          step.inside k (omega (arith, stores, size))
+          ∙ next_same row.kind (read_all values (slice_range pins row.first row.last)) (read_all values (slice_range pins row.first row.last)) (λ b. bit_at_place now (row.base + b)) (λ b. bit_at_place old (row.base + b)) k refl (own_old k) in
+          subst (λ (o : Row). bit_at_place new (o.base + k) ≡ next_content o.kind (read_all values (slice_range pins o.first o.last)) (λ b. bit_at_place old (o.base + b)) k) is own)
+      | inr differ ↦ (
+          let early : j < i = omega (arith, below, differ) in
+          step.outside (other.base + k) (inl (omega (arith, apart j i other row there at early, stores))) ∙ so_far.next j other k early there stores)
     ]
 
 -- A memory

@@ -1,7 +1,7 @@
 -- The plan as it is made.
-use Rattle.std.proofs.Common.{◌≡◌, ℕ, zero, suc, ◌+◌, ◌-◌, ◌*◌, ◌^◌, ◌<◌, ◌≤◌, List, [], ◌∷◌, ◌++◌, length, take, drop, sum_by, slice_get, slice_range, Some, refl, ap, sym, ◌∙◌, subst, arith, inl, inr, pow_mono}
+use Rattle.std.proofs.Common.{◌≡◌, ℕ, zero, suc, ◌+◌, ◌-◌, ◌*◌, ◌^◌, ◌<◌, ◌≤◌, List, [], ◌∷◌, ◌++◌, length, take, drop, sum_by, slice_get, slice_range, Some, refl, ap, sym, ◌∙◌, subst, arith, inl, inr, ◌⊎◌, pow_mono}
 use Rattle.std.proofs.lemmas.List.{length-map, length-append, take-append-le, length-drop}
-use Rattle.std.proofs.lemmas.List.Sums.{sum_by-cons, sum_by-append}
+use Rattle.std.proofs.lemmas.List.Sums.{sum_by-cons, sum_by_push, sum_by-take-le}
 use Rattle.std.proofs.lemmas.Option.{same_Some, slice_get_within}
 use Rattle.std.proofs.Math.Nat.{mul-le-mul_left, mul_comm}
 use Rattle.std.proofs.Math.Seq.{drop-append_seam}
@@ -15,7 +15,7 @@ use Rattle.clock_sim.specs.declared.plan.Row.{Row}
 use Rattle.clock_sim.specs.declared.plan.Slot.{Slot}
 use Rattle.clock_sim.specs.declared.plan.Formula.{Formula}
 use Rattle.clock_sim.specs.Reading.{place_of, places_of}
-use Rattle.clock_sim.specs.Plan.{base_of, AreRowsTo, AreFormulasTo}
+use Rattle.clock_sim.specs.Plan.{base_of, row_of, IsRow, AreRowsTo, AreFormulasTo}
 use Rattle.clock_sim.proofs.AdvanceLemmas.{base_more}
 
 size_small : (kind : CellKind) → IsAllowed kind → content_size kind ≤ 2 ^ 27
@@ -74,6 +74,34 @@ range_new : {A : Type 0} (xs ys : List A) (a b : ℕ) → a ≡ length xs → b 
 range_new xs ys a b start end =
     ap (λ n. take (b - n) (drop n (xs ++ ys))) start ∙ ap (take (b - length xs)) (drop-append_seam xs ys) ∙ take_whole (b - length xs) ys (omega (arith, end))
 
+-- an element of a list that has grown by one is of the list, or the last
+pub grown_by_one : {A : Type 0} (xs more : List A) (last : A) (n : ℕ) (x : A) → more ≡ xs ++ last ∷ [] → slice_get more n ≡ Some x → (slice_get xs n ≡ Some x) ⊎ ((n ≡ length xs) × (last ≡ x))
+grown_by_one xs more last n x grows at = elim (slice_get_append xs (last ∷ []) n x (sym (ap (λ ys. slice_get ys n) grows) ∙ at)) [
+  | inl here ↦ inl here
+  | inr later ↦ (
+      let none : later.0 ≡ 0 = omega (arith, slice_get_within (last ∷ []) later.0 x later.2) in
+      inr (omega (arith, later.1, none), same_Some _ _ (sym (ap (slice_get (last ∷ [])) none) ∙ later.2)))
+]
+
+-- a row of a cell still tells it when the list of pins grows
+pub row_stays : (cells : List Cell) (places more : List ℕ) (c : ℕ) (cell : Cell) (row : Row) → IsRow cells places c cell row → IsRow cells (places ++ more) c cell row
+row_stays cells places more c cell row is = record {
+  kind = is.kind;
+  places = range_stays places more row.first row.last is.order is.room ∙ is.places;
+  base = is.base;
+  order = is.order;
+  room = omega (arith, is.room, length-append places more);
+}
+
+pub row_new : (cells : List Cell) (places : List ℕ) (c : ℕ) (cell : Cell) (base : ℕ) → base ≡ base_of cells c → IsRow cells (places ++ places_of cell.ins) c cell (row_of cell (length places) base)
+row_new cells places c cell base at = record {
+  kind = refl;
+  places = range_new places (places_of cell.ins) (length places) (length places + length cell.ins) refl (omega (arith, length-map cell.ins place_of));
+  base = at;
+  order = omega arith;
+  room = omega (arith, length-append places (places_of cell.ins), length-map cell.ins place_of);
+}
+
 pub rows_none : (cells : List Cell) (places : List ℕ) (rows : List Row) → places ≡ [] → rows ≡ [] → AreRowsTo cells 0 places rows 0
 rows_none cells places rows no_places no_rows = record {
   size = ap length no_rows;
@@ -93,41 +121,33 @@ rows_none cells places rows no_places no_rows = record {
     none_at : (c : ℕ) (row : Row) → slice_get {X = Row} [] c ≡ Some row → ⊥
     none_at c row at = cc at
 
-pub rows_more : (cells : List Cell) (i : ℕ) (cell : Cell) (places grown : List ℕ) (rows more : List Row) (base next : ℕ) (row : Row) → slice_get cells i ≡ Some cell → AreRowsTo cells i places rows base
-    → grown ≡ places ++ places_of cell.ins → more ≡ rows ++ row ∷ [] → next ≡ base + content_size cell.kind
-    → row.kind ≡ cell.kind → row.first ≡ length places → row.last ≡ length grown → row.base ≡ base → AreRowsTo cells (i + 1) grown more next
-rows_more cells i cell places grown rows more base next row at so_far grows pushed after kind first last at_base = record {
-  size = ap length pushed ∙ (let e = length-append rows (row ∷ []) in omega (arith, e, so_far.size));
-  place_count = (let e = length-append places (places_of cell.ins) in let f = length-map cell.ins place_of in
-      let g = sum_by-append (λ (cell : Cell). length cell.ins) (take i cells) (cell ∷ []) in let h = sum_by-cons (λ (cell : Cell). length cell.ins) cell [] in
-      let k = ap (sum_by (λ (cell : Cell). length cell.ins)) (take_one_more cells i cell at) in
-      omega (arith, e, f, g, h, k, ap length grows, so_far.place_count));
+pub pins_more : (cells : List Cell) (i : ℕ) (cell : Cell) → slice_get cells i ≡ Some cell
+    → sum_by (λ (cell : Cell). length cell.ins) (take (i + 1) cells) ≡ sum_by (λ (cell : Cell). length cell.ins) (take i cells) + length cell.ins
+pins_more cells i cell at = ap (sum_by (λ (cell : Cell). length cell.ins)) (take_one_more cells i cell at) ∙ sum_by_push (λ (cell : Cell). length cell.ins) (take i cells) cell
+
+-- the pins of the first cells and of one more are among those of all
+pub pins_fit : (cells : List Cell) (i : ℕ) (cell : Cell) → slice_get cells i ≡ Some cell → sum_by (λ (cell : Cell). length cell.ins) (take i cells) + length cell.ins ≤ sum_by (λ (cell : Cell). length cell.ins) cells
+pins_fit cells i cell at = omega (arith, pins_more cells i cell at, sum_by-take-le (λ (cell : Cell). length cell.ins) cells (i + 1))
+
+pub rows_more : (cells : List Cell) (i : ℕ) (cell : Cell) (places grown : List ℕ) (rows more : List Row) (base next : ℕ) → slice_get cells i ≡ Some cell → AreRowsTo cells i places rows base
+    → grown ≡ places ++ places_of cell.ins → more ≡ rows ++ row_of cell (length places) base ∷ [] → next ≡ base + content_size cell.kind → AreRowsTo cells (i + 1) grown more next
+rows_more cells i cell places grown rows more base next at so_far grows pushed after = record {
+  size = ap length pushed ∙ (let e = length-append rows (row_of cell (length places) base ∷ []) in omega (arith, e, so_far.size));
+  place_count = ap length grows ∙ (let e = length-append places (places_of cell.ins) in let f = length-map cell.ins place_of in omega (arith, e, f, so_far.place_count, pins_more cells i cell at));
   next_base = after ∙ (let e = base_more cells i cell at in omega (arith, e, so_far.next_base));
   each = each;
 }
   where
-    size : length grown ≡ length places + length (places_of cell.ins)
-    size = ap length grows ∙ length-append places (places_of cell.ins)
-
-    each : (c : ℕ) (o : Cell) (r : Row) → slice_get cells c ≡ Some o → slice_get more c ≡ Some r
-        → (r.kind ≡ o.kind) × (slice_range grown r.first r.last ≡ places_of o.ins) × (r.base ≡ base_of cells c) × (r.first ≤ r.last) × (r.last ≤ length grown)
-    each c o r there own = elim (slice_get_append rows (row ∷ []) c r (sym (ap (λ rs. slice_get rs c) pushed) ∙ own)) [
-      | inl here ↦ (
-          let before = so_far.each c o r there here in
-          (before.0, ap (λ xs. slice_range xs r.first r.last) grows ∙ range_stays places (places_of cell.ins) r.first r.last before.3 before.4 ∙ before.1, before.2, before.3, omega (arith, before.4, size)))
-      | inr later ↦ (
-          let first_one : later.0 ≡ 0 = omega (arith, slice_get_within (row ∷ []) later.0 r later.2) in
-          let is_row : row ≡ r = same_Some _ _ (sym (ap (slice_get (row ∷ [])) first_one) ∙ later.2) in
-          let place : c ≡ i = omega (arith, later.1, first_one, so_far.size) in
+    each : (c : ℕ) (o : Cell) (r : Row) → slice_get cells c ≡ Some o → slice_get more c ≡ Some r → IsRow cells grown c o r
+    each c o r there own = subst (λ (pins : List ℕ). IsRow cells pins c o r) (sym grows) (elim (grown_by_one rows more (row_of cell (length places) base) c r pushed own) [
+      | inl here ↦ row_stays cells places (places_of cell.ins) c o r (so_far.each c o r there here)
+      | inr last ↦ (
+          let place : c ≡ i = last.0 ∙ so_far.size in
           let is_cell : cell ≡ o = same_Some _ _ (sym at ∙ ap (slice_get cells) (sym place) ∙ there) in
-          subst (λ (r : Row). (r.kind ≡ o.kind) × (slice_range grown r.first r.last ≡ places_of o.ins) × (r.base ≡ base_of cells c) × (r.first ≤ r.last) × (r.last ≤ length grown)) is_row (
-            kind ∙ ap (λ (o : Cell). o.kind) is_cell,
-            ap (λ xs. slice_range xs row.first row.last) grows ∙ range_new places (places_of cell.ins) row.first row.last first (last ∙ size) ∙ ap (λ (o : Cell). places_of o.ins) is_cell,
-            at_base ∙ so_far.next_base ∙ ap (base_of cells) (sym place),
-            omega (arith, first, last, size),
-            omega (arith, last),
-          ))
-    ]
+          subst (λ (r : Row). IsRow cells (places ++ places_of cell.ins) c o r) last.1
+          (subst (λ (o : Cell). IsRow cells (places ++ places_of cell.ins) c o (row_of cell (length places) base)) is_cell
+          (row_new cells places c cell base (so_far.next_base ∙ ap (base_of cells) (sym place)))))
+    ])
 
 pub formulas_none : (pins : List ℕ) (rows : List Row) (slots : List Slot) (places : List ℕ) (formulas : List Formula) → formulas ≡ [] → AreFormulasTo pins rows slots 0 places formulas
 formulas_none pins rows slots places formulas none = record {
@@ -153,17 +173,15 @@ formulas_more pins rows slots i slot row places grown formulas more formula at r
 
     each : (j : ℕ) (s : Slot) (r : Row) (f : Formula) → slice_get slots j ≡ Some s → slice_get rows s.cell ≡ Some r → slice_get more j ≡ Some f
         → (f.kind ≡ r.kind) × (slice_range grown f.first f.last ≡ slice_range pins r.first r.last) × (f.base ≡ r.base) × (f.out ≡ s.out) × (f.net ≡ s.net) × (f.first ≤ f.last) × (f.last ≤ length grown)
-    each j s r f there on own = elim (slice_get_append formulas (formula ∷ []) j f (sym (ap (λ fs. slice_get fs j) pushed) ∙ own)) [
+    each j s r f there on own = elim (grown_by_one formulas more formula j f pushed own) [
       | inl here ↦ (
           let before = so_far.each j s r f there on here in
           (before.0, ap (λ xs. slice_range xs f.first f.last) grows ∙ range_stays places (slice_range pins row.first row.last) f.first f.last before.5 before.6 ∙ before.1, before.2, before.3, before.4, before.5, omega (arith, before.6, size)))
-      | inr later ↦ (
-          let first_one : later.0 ≡ 0 = omega (arith, slice_get_within (formula ∷ []) later.0 f later.2) in
-          let is_formula : formula ≡ f = same_Some _ _ (sym (ap (slice_get (formula ∷ [])) first_one) ∙ later.2) in
-          let place : j ≡ i = omega (arith, later.1, first_one, so_far.size) in
+      | inr newest ↦ (
+          let place : j ≡ i = newest.0 ∙ so_far.size in
           let is_slot : slot ≡ s = same_Some _ _ (sym at ∙ ap (slice_get slots) (sym place) ∙ there) in
           let is_row : row ≡ r = same_Some _ _ (sym row_at ∙ ap (λ (o : Slot). slice_get rows o.cell) is_slot ∙ on) in
-          subst (λ (f : Formula). (f.kind ≡ r.kind) × (slice_range grown f.first f.last ≡ slice_range pins r.first r.last) × (f.base ≡ r.base) × (f.out ≡ s.out) × (f.net ≡ s.net) × (f.first ≤ f.last) × (f.last ≤ length grown)) is_formula (
+          subst (λ (f : Formula). (f.kind ≡ r.kind) × (slice_range grown f.first f.last ≡ slice_range pins r.first r.last) × (f.base ≡ r.base) × (f.out ≡ s.out) × (f.net ≡ s.net) × (f.first ≤ f.last) × (f.last ≤ length grown)) newest.1 (
             kind ∙ ap (λ (o : Row). o.kind) is_row,
             ap (λ xs. slice_range xs formula.first formula.last) grows ∙ range_new places (slice_range pins row.first row.last) formula.first formula.last first (last ∙ size) ∙ ap (λ (o : Row). slice_range pins o.first o.last) is_row,
             base ∙ ap (λ (o : Row). o.base) is_row,

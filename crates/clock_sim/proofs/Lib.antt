@@ -4,6 +4,7 @@ pub mod SettleLemmas
 pub mod AdvanceLemmas
 pub mod PlainLemmas
 pub mod BuildLemmas
+pub mod RegisterLemmas
 pub mod SlotLemmas
 pub mod StartLemmas
 pub mod PlanLemmas

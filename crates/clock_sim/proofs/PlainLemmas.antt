@@ -1,33 +1,33 @@
 -- One step of the plain simulator is one clock of the run.
-use Rattle.std.proofs.Common.{◌≡◌, ◌≢◌, ℕ, ◌+◌, ◌<◌, Bool, List, [], ◌∷◌, ◌++◌, map, length, get_or, slice_get, Some, ap, sym, ◌∙◌, subst, arith}
+use Rattle.std.proofs.Common.{◌≡◌, ◌≢◌, ℕ, ◌+◌, ◌<◌, Bool, List, [], ◌∷◌, ◌++◌, map, length, get_or, slice_get, slice_range, Some, ap, sym, ◌∙◌, subst, arith}
 use Rattle.std.proofs.lemmas.List.{length-map, same_lists}
 use Rattle.std.proofs.lemmas.Option.{slice_get-get_or, slice_get_within, slice_get-map, get_or_from_slice_get}
 use Rattle.std.specs.Option.{option_map}
+use Rattle.net_core.specs.declared.kind.CellKind.{CellKind}
 use Rattle.net_core.specs.declared.parts.Cell.{Cell}
-use Rattle.net_core.specs.CellTable.{content_size, output}
+use Rattle.net_core.specs.CellTable.{content_size, next_content, output}
 use Rattle.net_core.specs.Netlist.{Netlist, Drives, HasDriver, input_nets, input_bits, parts_of}
 use Rattle.net_core.specs.Run.{input_pins, IsSettled, IsNext, StandsFor}
 use Rattle.net_core.proofs.RunLemmas.{stands_next}
+use Rattle.net_core.proofs.DependLemmas.{next_same}
 use Rattle.net_core.proofs.InputLemmas.{inputs_differ}
 use Rattle.net_core.proofs.PartsLemmas.{filter_some}
 use Rattle.clock_sim.specs.declared.plan.Row.{Row}
 use Rattle.clock_sim.specs.declared.plan.Slot.{Slot}
 use Rattle.clock_sim.specs.declared.plan.Formula.{Formula}
-use Rattle.clock_sim.specs.Reading.{net_bit}
-use Rattle.clock_sim.specs.Plan.{base_of, stored_bit, IsPlan, IsWithin, AreWithin, HasConstants, IsPlaced, IsSettledTo, HasRows, IsAdvancedTo, KeepsPlan}
+use Rattle.clock_sim.specs.Reading.{bit_at_place, net_bit, read_all}
+use Rattle.clock_sim.specs.Plan.{base_of, stored_bit, IsPlan, IsWithin, AreWithin, HasConstants, IsPlaced, IsSettledTo, IsRow, IsAdvancedTo, KeepsPlan}
+use Rattle.clock_sim.proofs.SettleLemmas.{read_pins}
 
-module _ (net : Netlist) (inputs pins : List ℕ) (rows : List Row) (places : List ℕ) (formulas : List Formula) (old : List Bool) (stored : List Bool) (keeps : KeepsPlan net inputs pins rows places formulas old stored) where
+module _ (net : Netlist) (inputs bases pins : List ℕ) (registers : List Row) (places : List ℕ) (formulas : List Formula) (old stored : List Bool) (keeps : KeepsPlan net inputs bases pins registers places formulas old stored) where
   module _ (row placed settled after : List Bool) (size : length row ≡ length (input_nets net)) (puts : IsPlaced inputs row (length inputs) old placed)
       (settles : (net : Netlist) (rank : ℕ → ℕ) (slots : List Slot) → IsPlan net rank slots places formulas → IsSettledTo net slots stored (length slots) placed settled)
-      (advances : (net : Netlist) → HasRows net settled pins rows → IsAdvancedTo net settled (length rows) stored after) where
+      (advanced : IsAdvancedTo settled pins registers (length registers) stored after) where
     done : IsSettledTo net keeps.slots stored (length keeps.slots) placed settled
     done = settles net keeps.rank keeps.slots keeps.plan
 
     constants : HasConstants settled
     constants = record { zero_place = done.zero_place; one_place = done.one_place }
-
-    next : IsAdvancedTo net settled (length rows) stored after
-    next = advances net (record { size = keeps.row_count; row_each = keeps.row_each; constants = constants })
 
     -- an input's net is on no slot
     no_slot : (i n : ℕ) → slice_get (input_nets net) i ≡ Some n → (j : ℕ) (slot : Slot) → slice_get keeps.slots j ≡ Some slot → slot.net ≢ n
@@ -68,17 +68,30 @@ module _ (net : Netlist) (inputs pins : List ℕ) (rows : List Row) (places : Li
             ∙ ap (output cell.kind (input_pins (net_bit settled) cell) (stored_bit net.cells stored c)) same_out
 
     is_next : IsNext net (net_bit settled) (stored_bit net.cells stored) (stored_bit net.cells after)
-    is_next c cell i at within = next.next c cell i (omega (arith, slice_get_within net.cells c cell at, keeps.row_count)) at within
+    is_next c cell i at within =
+        let own = keeps.register_each.complete c cell at (omega (arith, within)) in
+        own_next c cell i within own.0 own.1 own.2 own.3
+      where
+        own_next : (c : ℕ) (cell : Cell) (i : ℕ) → i < content_size cell.kind → (j : ℕ) (register : Row) → slice_get registers j ≡ Some register → IsRow net.cells pins c cell register
+            → stored_bit net.cells after c i ≡ next_content cell.kind (input_pins (net_bit settled) cell) (stored_bit net.cells stored c) i
+        own_next c cell i within j register at is =
+            let place : register.base + i ≡ base_of net.cells c + i = ap (λ b. b + i) is.base in
+            let size : content_size register.kind ≡ content_size cell.kind = ap content_size is.kind in
+            sym (ap (bit_at_place after) place)
+            ∙ advanced.next j register i (slice_get_within registers j register at) at (omega (arith, within, size))
+            ∙ ap (λ (kind : CellKind). next_content kind (read_all settled (slice_range pins register.first register.last)) (λ b. bit_at_place stored (register.base + b)) i) is.kind
+            ∙ next_same cell.kind (read_all settled (slice_range pins register.first register.last)) (input_pins (net_bit settled) cell) (λ b. bit_at_place stored (register.base + b)) (stored_bit net.cells stored c) i
+            (ap (read_all settled) is.places ∙ read_pins settled cell.ins constants.zero_place constants.one_place) (ap (bit_at_place stored) place)
 
-    pub keeps_after : KeepsPlan net inputs pins rows places formulas settled after
+    pub keeps_after : KeepsPlan net inputs bases pins registers places formulas settled after
     keeps_after = record {
       rank = keeps.rank;
       slots = keeps.slots;
       plan = keeps.plan;
-      row_count = keeps.row_count;
-      row_each = keeps.row_each;
+      base_each = keeps.base_each;
+      register_each = keeps.register_each;
       input_each = keeps.input_each;
-      within = subst (λ (n : ℕ). IsWithin pins rows n) (sym next.size) keeps.within;
+      within = subst (λ (n : ℕ). IsWithin pins registers n) (sym advanced.size) keeps.within;
       formulas_within = subst (λ (n : ℕ). AreWithin places formulas n) (sym (done.size ∙ puts.size)) keeps.formulas_within;
       inputs_within = λ i n at. omega (arith, keeps.inputs_within i n at, done.size, puts.size);
       constants = constants;
@@ -86,12 +99,3 @@ module _ (net : Netlist) (inputs pins : List ℕ) (rows : List Row) (places : Li
 
     pub stands_after : (history : List (List Bool)) → StandsFor net (net_bit old) (stored_bit net.cells stored) history → StandsFor net (net_bit settled) (stored_bit net.cells after) (history ++ row ∷ [])
     stands_after history stands = stands_next net keeps.plan.flat keeps.rank keeps.plan.ranked (net_bit old) (stored_bit net.cells stored) history row (net_bit settled) (stored_bit net.cells after) stands is_settled is_next
-
--- the stored bit of a cell is within the bits of all
-pub stored_within : (net : Netlist) (inputs pins : List ℕ) (rows : List Row) (places : List ℕ) (formulas : List Formula) (values stored : List Bool) → KeepsPlan net inputs pins rows places formulas values stored
-    → (c index : ℕ) (cell : Cell) (row : Row) → slice_get net.cells c ≡ Some cell → slice_get rows c ≡ Some row → index < content_size cell.kind
-    → (row.base + index < length stored) × (row.base ≡ base_of net.cells c)
-stored_within net inputs pins rows places formulas values stored keeps c index cell row at there low =
-    let own = keeps.row_each c cell row at there in
-    let size : content_size row.kind ≡ content_size cell.kind = ap content_size own.kind in
-    (omega (arith, keeps.within.bases c row there, size, low), own.base)

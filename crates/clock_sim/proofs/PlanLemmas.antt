@@ -1,8 +1,9 @@
 -- What a new plain simulator keeps.
-use Rattle.std.proofs.Common.{◌≡◌, ℕ, zero, suc, ◌+◌, ◌^◌, ◌<◌, ◌≤◌, Bool, List, [], ◌∷◌, length, replicate, fold, sum, sum_by, slice_get, slice_index, slice_range, Some, ap, sym, ◌∙◌, subst, arith}
+use Rattle.std.proofs.Common.{◌≡◌, ℕ, zero, suc, ◌+◌, ◌^◌, ◌<◌, ◌≤◌, Bool, List, [], ◌∷◌, length, map, replicate, fold, sum, sum_by, slice_get, slice_index, slice_range, Some, ap, sym, ◌∙◌, subst, arith}
 use Rattle.std.proofs.lemmas.List.{length-map}
 use Rattle.std.proofs.lemmas.List.Sums.{sum_by-cons}
-use Rattle.std.proofs.lemmas.Option.{slice_get_within}
+use Rattle.std.proofs.lemmas.Option.{slice_get_within, slice_get-map}
+use Rattle.std.specs.Option.{option_map}
 use Rattle.net_core.specs.declared.kind.CellKind.{CellKind}
 use Rattle.net_core.specs.declared.kind.CellKind.TheVariants.{Gate, Lut, Inv, Ibuf, Obuf, Bufg, Gnd, Vcc, Muxf7, Muxf8, Carry4, Fdre, Fdse, Fdce, Fdpe, Mem}
 use Rattle.net_core.specs.declared.parts.Pin.{Pin}
@@ -19,7 +20,7 @@ use Rattle.clock_sim.specs.declared.plan.Row.{Row}
 use Rattle.clock_sim.specs.declared.plan.Slot.{Slot}
 use Rattle.clock_sim.specs.declared.plan.Formula.{Formula}
 use Rattle.clock_sim.specs.Reading.{place_of, net_bit, HasPins, HasMemoryPins}
-use Rattle.clock_sim.specs.Plan.{stored_bit, AreRowsTo, AreFormulasTo, AreSlots, IsFormula, HasConstants, HasPinsWithin, IsStartTo, KeepsPlan}
+use Rattle.clock_sim.specs.Plan.{base_of, stored_bit, AreRowsTo, AreBases, AreRegisters, AreFormulasTo, AreSlots, IsFormula, IsWithin, HasConstants, HasPinsWithin, IsStartTo, KeepsPlan}
 use Rattle.clock_sim.proofs.AdvanceLemmas.{there_is, base_apart}
 use Rattle.clock_sim.proofs.BuildLemmas.{bases_fit}
 
@@ -78,7 +79,7 @@ pub rows_range : (cells : List Cell) (pins : List ℕ) (rows : List Row) (base c
 rows_range cells pins rows base c row told at =
     let cell = there_is cells c (omega (arith, slice_get_within rows c row at, told.size)) in
     let each = told.each c cell.0 row cell.1 at in
-    (each.3, each.4)
+    (each.order, each.room)
 
 -- each slot's cell has a row
 pub slot_has_row : (net : Netlist) (rank : ℕ → ℕ) (pins : List ℕ) (rows : List Row) (slots : List Slot) (base j : ℕ) (slot : Slot) → AreRowsTo net.cells (length net.cells) pins rows base → AreSlots net rank slots → slice_get slots j ≡ Some slot
@@ -102,19 +103,37 @@ module _ (net : Netlist) (flat : IsFlat net) where
   places_fit c i cell pins.Zero at from = omega arith
   places_fit c i cell pins.One at from = omega arith
 
-  module _ (numbers inputs pins : List ℕ) (rows : List Row) (slots : List Slot) (places : List ℕ) (formulas : List Formula) (values stored : List Bool) (base : ℕ) (ranked : IsRanked net (slice_index numbers))
-      (input_each : inputs ≡ input_nets net) (told : AreRowsTo net.cells (length net.cells) pins rows base) (slot_each : AreSlots net (slice_index numbers) slots)
-      (made : AreFormulasTo pins rows slots (length slots) places formulas) (size : length values ≡ net_count net.groups + 2) (constants : HasConstants values)
-      (start : IsStartTo net.cells (length net.cells) stored) where
-    -- the cell of a row, and the row of a cell
-    cell_at : (c : ℕ) (row : Row) → slice_get rows c ≡ Some row → (cell : Cell) × (slice_get net.cells c ≡ Some cell)
-    cell_at c row at = there_is net.cells c (omega (arith, slice_get_within rows c row at, told.size))
+  pub bases_new : (pins bases : List ℕ) (rows : List Row) (next : ℕ) → AreRowsTo net.cells (length net.cells) pins rows next → bases ≡ map (λ (row : Row). row.base) rows → AreBases net.cells bases
+  bases_new pins bases rows next told is c cell at =
+      let row = there_is rows c (omega (arith, slice_get_within net.cells c cell at, told.size)) in
+      ap (λ xs. slice_get xs c) is ∙ slice_get-map (λ (row : Row). row.base) rows c ∙ ap (option_map (λ (row : Row). row.base)) row.1 ∙ ap Some (told.each c cell row.0 at row.1).base
 
+  -- the registers' numbers stay within their lists
+  registers_within : (pins : List ℕ) (registers : List Row) (stored : List Bool) → AreRegisters net.cells pins registers → length stored ≡ base_of net.cells (length net.cells) → IsWithin pins registers (length stored)
+  registers_within pins registers stored are size = record {
+    ranges = λ j row at. (let own = are.sound j row at in (own.3.order, own.3.room));
+    bases = λ j row at. (
+        let own = are.sound j row at in
+        let kinds : content_size row.kind ≡ content_size own.1.kind = ap content_size own.3.kind in
+        omega (arith, own.3.base, kinds, base_apart net.cells own.0 (length net.cells) own.1 own.2 (slice_get_within net.cells own.0 own.1 own.2), size));
+    memories = λ j row at. (
+        let own = are.sound j row at in
+        let own_row = flat.formed.rows own.0 own.1 own.2 in
+        let count : length (slice_range pins row.first row.last) ≡ length own.1.ins = ap length own.3.places ∙ length-map own.1.ins place_of in
+        subst (λ (n : ℕ). HasMemoryPins row.kind n) (sym count)
+        (subst (λ (kind : CellKind). HasMemoryPins kind (length own.1.ins)) (sym own.3.kind) (memory_pins own.1.kind (length own.1.ins) own_row.allowed own_row.input_count)));
+    few = omega (arith, size, bases_fit net.cells (length net.cells) all_allowed few_cells);
+  }
+
+  pub stands_new : (values stored : List Bool) → IsStartTo net.cells (length net.cells) stored → StandsFor net (net_bit values) (stored_bit net.cells stored) []
+  stands_new values stored start = stands_none net (net_bit values) (stored_bit net.cells stored) (λ c cell i at within. start.bits c cell i (slice_get_within net.cells c cell at) at within)
+
+  module _ (numbers inputs row_pins : List ℕ) (rows : List Row) (slots : List Slot) (bases pins : List ℕ) (registers : List Row) (places : List ℕ) (formulas : List Formula) (values stored : List Bool) (next : ℕ)
+      (ranked : IsRanked net (slice_index numbers)) (input_each : inputs ≡ input_nets net) (told : AreRowsTo net.cells (length net.cells) row_pins rows next) (base_each : AreBases net.cells bases)
+      (register_each : AreRegisters net.cells pins registers) (slot_each : AreSlots net (slice_index numbers) slots) (made : AreFormulasTo row_pins rows slots (length slots) places formulas)
+      (size : length values ≡ net_count net.groups + 2) (constants : HasConstants values) (start : IsStartTo net.cells (length net.cells) stored) where
     row_at : (c : ℕ) (cell : Cell) → slice_get net.cells c ≡ Some cell → (row : Row) × (slice_get rows c ≡ Some row)
     row_at c cell at = there_is rows c (omega (arith, slice_get_within net.cells c cell at, told.size))
-
-    pin_size : (c : ℕ) (cell : Cell) (row : Row) → slice_get net.cells c ≡ Some cell → slice_get rows c ≡ Some row → length (slice_range pins row.first row.last) ≡ length cell.ins
-    pin_size c cell row at there = ap length (told.each c cell row at there).1 ∙ length-map cell.ins place_of
 
     -- a formula has what the row of its slot's cell has
     is_formula : (j : ℕ) (slot : Slot) (cell : Cell) (formula : Formula) → slice_get slots j ≡ Some slot → slice_get net.cells slot.cell ≡ Some cell → slice_get formulas j ≡ Some formula → IsFormula net places slot cell formula
@@ -122,7 +141,7 @@ module _ (net : Netlist) (flat : IsFlat net) where
         let row = row_at slot.cell cell at in
         let tells = told.each slot.cell cell row.0 at row.1 in
         let has = made.each j slot row.0 formula there row.1 own in
-        record { kind = has.0 ∙ tells.0; places = has.1 ∙ tells.1; base = has.2 ∙ tells.2; on_pin = has.3; on_net = has.4 }
+        record { kind = has.0 ∙ tells.kind; places = has.1 ∙ tells.places; base = has.2 ∙ tells.base; on_pin = has.3; on_net = has.4 }
 
     formula_within : (j : ℕ) (formula : Formula) → slice_get formulas j ≡ Some formula → (formula.net + 2 < length values) × HasPinsWithin places formula
     formula_within j formula own =
@@ -145,26 +164,15 @@ module _ (net : Netlist) (flat : IsFlat net) where
           },
         )
 
-    pub keeps_new : KeepsPlan net inputs pins rows places formulas values stored
+    pub keeps_new : KeepsPlan net inputs bases pins registers places formulas values stored
     keeps_new = record {
       rank = slice_index numbers;
       slots = slots;
       plan = record { flat = flat; ranked = ranked; slot_each = slot_each; size = made.size; formula_each = is_formula };
-      row_count = told.size;
-      row_each = λ c cell row at there. (let own = told.each c cell row at there in record { kind = own.0; places = own.1; base = own.2 });
+      base_each = base_each;
+      register_each = register_each;
       input_each = input_each;
-      within = record {
-        ranges = λ c row at. rows_range net.cells pins rows base c row told at;
-        bases = λ c row at. (
-            let own = cell_at c row at in let each = told.each c own.0 row own.1 at in
-            let kinds : content_size row.kind ≡ content_size own.0.kind = ap content_size each.0 in
-            omega (arith, each.2, kinds, base_apart net.cells c (length net.cells) own.0 own.1 (slice_get_within net.cells c own.0 own.1), start.size));
-        memories = λ c row at. (
-            let own = cell_at c row at in let own_row = flat.formed.rows c own.0 own.1 in
-            subst (λ (n : ℕ). HasMemoryPins row.kind n) (sym (pin_size c own.0 row own.1 at))
-            (subst (λ (kind : CellKind). HasMemoryPins kind (length own.0.ins)) (sym (told.each c own.0 row own.1 at).0) (memory_pins own.0.kind (length own.0.ins) own_row.allowed own_row.input_count)));
-        few = omega (arith, start.size, bases_fit net.cells (length net.cells) all_allowed few_cells);
-      };
+      within = registers_within pins registers stored register_each start.size;
       formulas_within = formula_within;
       inputs_within = λ i n at. (
           let own = filter_some _ (input_bits (parts_of net)) i n (sym (ap (λ xs. slice_get xs i) input_each) ∙ at) in
@@ -172,6 +180,3 @@ module _ (net : Netlist) (flat : IsFlat net) where
           omega (arith, input_within (parts_of net) flat.formed n from.0 from.1 from.2 from.3, size));
       constants = constants;
     }
-
-    pub stands_new : StandsFor net (net_bit values) (stored_bit net.cells stored) []
-    stands_new = stands_none net (net_bit values) (stored_bit net.cells stored) (λ c cell i at within. start.bits c cell i (slice_get_within net.cells c cell at) at within)

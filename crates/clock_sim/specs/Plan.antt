@@ -11,7 +11,7 @@ use Rattle.net_core.specs.Cycle.{IsRanked}
 use Rattle.clock_sim.specs.declared.plan.Row.{Row}
 use Rattle.clock_sim.specs.declared.plan.Slot.{Slot}
 use Rattle.clock_sim.specs.declared.plan.Formula.{Formula}
-use Rattle.clock_sim.specs.Reading.{bit_at_place, net_bit, places_of, HasPins, HasMemoryPins}
+use Rattle.clock_sim.specs.Reading.{bit_at_place, read_all, net_bit, places_of, HasPins, HasMemoryPins}
 
 -- the number of a cell's first stored bit: all cells' stored bits stand one after the other
 abbrev pub base_of : List Cell → ℕ → ℕ
@@ -21,14 +21,32 @@ base_of cells c = sum_by (λ (cell : Cell). content_size cell.kind) (take c cell
 abbrev pub stored_bit : List Cell → List Bool → ℕ → ℕ → Bool
 stored_bit cells stored c i = bit_at_place stored (base_of cells c + i)
 
+-- the row of a cell whose pins are put into a list behind so many others
+abbrev pub row_of : Cell → ℕ → ℕ → Row
+row_of cell first base = record { kind = cell.kind; first = first; last = first + length cell.ins; base = base }
+
 -- a row tells the cell with this number
-pub record IsRow (net : Netlist) (pins : List ℕ) (c : ℕ) (cell : Cell) (row : Row) : Type 0 where
+pub record IsRow (cells : List Cell) (pins : List ℕ) (c : ℕ) (cell : Cell) (row : Row) : Type 0 where
   pub kind : row.kind ≡ cell.kind
   pub places : slice_range pins row.first row.last ≡ places_of cell.ins
-  pub base : row.base ≡ base_of net.cells c
+  pub base : row.base ≡ base_of cells c
+  pub order : row.first ≤ row.last
+  pub room : row.last ≤ length pins
 
-abbrev pub AreRows : Netlist → List ℕ → List Row → Type 0
-AreRows net pins rows = (c : ℕ) (cell : Cell) (row : Row) → slice_get net.cells c ≡ Some cell → slice_get rows c ≡ Some row → IsRow net pins c cell row
+-- each row's stored bits end before those of a later row
+abbrev pub AreApart : List Row → Type 0
+AreApart rows = (i j : ℕ) (a b : Row) → slice_get rows i ≡ Some a → slice_get rows j ≡ Some b → i < j → a.base + content_size a.kind ≤ b.base
+
+-- the plan of advancing: the registers are rows of cells, one for each cell that stores bits
+pub record AreRegisters (cells : List Cell) (pins : List ℕ) (registers : List Row) : Type 0 where
+  pub sound : (j : ℕ) (row : Row) → slice_get registers j ≡ Some row → (c : ℕ) × (cell : Cell) × (slice_get cells c ≡ Some cell) × IsRow cells pins c cell row
+  pub complete : (c : ℕ) (cell : Cell) → slice_get cells c ≡ Some cell → 0 < content_size cell.kind
+      → (j : ℕ) × (row : Row) × (slice_get registers j ≡ Some row) × IsRow cells pins c cell row
+  pub apart : AreApart registers
+
+-- the numbers of the cells' first stored bits
+abbrev pub AreBases : List Cell → List ℕ → Type 0
+AreBases cells bases = (c : ℕ) (cell : Cell) → slice_get cells c ≡ Some cell → slice_get bases c ≡ Some (base_of cells c)
 
 -- the slots are the data outputs, each once, in the order of levels
 pub record AreSlots (net : Netlist) (rank : ℕ → ℕ) (slots : List Slot) : Type 0 where
@@ -57,11 +75,11 @@ pub record IsPlan (net : Netlist) (rank : ℕ → ℕ) (slots : List Slot) (pins
   pub size : length formulas ≡ length slots
   pub formula_each : AreFormulas net slots pins formulas
 
--- the numbers of rows stay within their lists
-pub record IsWithin (pins : List ℕ) (rows : List Row) (stored : ℕ) : Type 0 where
-  pub ranges : (c : ℕ) (row : Row) → slice_get rows c ≡ Some row → (row.first ≤ row.last) × (row.last ≤ length pins)
-  pub bases : (c : ℕ) (row : Row) → slice_get rows c ≡ Some row → row.base + content_size row.kind ≤ stored
-  pub memories : (c : ℕ) (row : Row) → slice_get rows c ≡ Some row → HasMemoryPins row.kind (length (slice_range pins row.first row.last))
+-- the numbers of registers stay within their lists
+pub record IsWithin (pins : List ℕ) (registers : List Row) (stored : ℕ) : Type 0 where
+  pub ranges : (j : ℕ) (row : Row) → slice_get registers j ≡ Some row → (row.first ≤ row.last) × (row.last ≤ length pins)
+  pub bases : (j : ℕ) (row : Row) → slice_get registers j ≡ Some row → row.base + content_size row.kind ≤ stored
+  pub memories : (j : ℕ) (row : Row) → slice_get registers j ≡ Some row → HasMemoryPins row.kind (length (slice_range pins row.first row.last))
   pub few : stored < 2 ^ 64
 
 -- a formula's pins are a part of the list, and those that its evaluation asks
@@ -100,18 +118,12 @@ pub record AdvancesRow (kind : CellKind) (base : ℕ) (ins : List Bool) (old new
   pub inside : (i : ℕ) → i < content_size kind → bit_at_place new (base + i) ≡ next_content kind ins (λ j. bit_at_place old (base + j)) i
   pub outside : (k : ℕ) → (k < base) ⊎ (base + content_size kind ≤ k) → bit_at_place new k ≡ bit_at_place old k
 
--- the stored bits of the first cells are those of the next clock, and those of the others stay
-pub record IsAdvancedTo (net : Netlist) (values : List Bool) (i : ℕ) (old new : List Bool) : Type 0 where
+-- the stored bits of the first registers are those of the next clock, and all bits that are of none of them stay
+pub record IsAdvancedTo (values : List Bool) (pins : List ℕ) (registers : List Row) (i : ℕ) (old new : List Bool) : Type 0 where
   pub size : length new ≡ length old
-  pub next : (c : ℕ) (cell : Cell) (k : ℕ) → c < i → slice_get net.cells c ≡ Some cell → k < content_size cell.kind
-      → stored_bit net.cells new c k ≡ next_content cell.kind (input_pins (net_bit values) cell) (stored_bit net.cells old c) k
-  pub later : (k : ℕ) → base_of net.cells i ≤ k → bit_at_place new k ≡ bit_at_place old k
-
--- the rows tell the cells of a netlist, whose nets have these bits
-pub record HasRows (net : Netlist) (values : List Bool) (pins : List ℕ) (rows : List Row) : Type 0 where
-  pub size : length rows ≡ length net.cells
-  pub row_each : AreRows net pins rows
-  pub constants : HasConstants values
+  pub next : (j : ℕ) (row : Row) (k : ℕ) → j < i → slice_get registers j ≡ Some row → k < content_size row.kind
+      → bit_at_place new (row.base + k) ≡ next_content row.kind (read_all values (slice_range pins row.first row.last)) (λ b. bit_at_place old (row.base + b)) k
+  pub kept : (k : ℕ) → ((j : ℕ) (row : Row) → j < i → slice_get registers j ≡ Some row → (k < row.base) ⊎ (row.base + content_size row.kind ≤ k)) → bit_at_place new k ≡ bit_at_place old k
 
 -- the bits of a row from its first on are those of the pins up to the last, which is the lowest
 pub record WritesRow (start last count : ℕ) (ins : List Bool) (old new : List Bool) : Type 0 where
@@ -131,15 +143,15 @@ net_bits state = net_bit state.values
 abbrev pub net_content : State → ℕ → ℕ → Bool
 net_content state = stored_bit state.net.cells state.stored
 
--- what a plain simulator keeps: the rows of its netlist, and a plan of it by numbers that rise along dependence
-pub record KeepsPlan (net : Netlist) (inputs pins : List ℕ) (rows : List Row) (places : List ℕ) (formulas : List Formula) (values stored : List Bool) : Type 0 where
+-- what a plain simulator keeps: the first stored bits and the registers of its netlist, and a plan of it by numbers that rise along dependence
+pub record KeepsPlan (net : Netlist) (inputs bases pins : List ℕ) (registers : List Row) (places : List ℕ) (formulas : List Formula) (values stored : List Bool) : Type 0 where
   pub rank : ℕ → ℕ
   pub slots : List Slot
   pub plan : IsPlan net rank slots places formulas
-  pub row_count : length rows ≡ length net.cells
-  pub row_each : AreRows net pins rows
+  pub base_each : AreBases net.cells bases
+  pub register_each : AreRegisters net.cells pins registers
   pub input_each : inputs ≡ input_nets net
-  pub within : IsWithin pins rows (length stored)
+  pub within : IsWithin pins registers (length stored)
   pub formulas_within : AreWithin places formulas (length values)
   pub inputs_within : (i n : ℕ) → slice_get inputs i ≡ Some n → n + 2 < length values
   pub constants : HasConstants values
@@ -149,8 +161,7 @@ pub record AreRowsTo (cells : List Cell) (i : ℕ) (places : List ℕ) (rows : L
   pub size : length rows ≡ i
   pub place_count : length places ≡ sum_by (λ (cell : Cell). length cell.ins) (take i cells)
   pub next_base : next ≡ base_of cells i
-  pub each : (c : ℕ) (cell : Cell) (row : Row) → slice_get cells c ≡ Some cell → slice_get rows c ≡ Some row
-      → (row.kind ≡ cell.kind) × (slice_range places row.first row.last ≡ places_of cell.ins) × (row.base ≡ base_of cells c) × (row.first ≤ row.last) × (row.last ≤ length places)
+  pub each : (c : ℕ) (cell : Cell) (row : Row) → slice_get cells c ≡ Some cell → slice_get rows c ≡ Some row → IsRow cells places c cell row
 
 -- the formulas of the first slots: each has what the row of its slot's cell has, with the same pins in a list of their own
 pub record AreFormulasTo (pins : List ℕ) (rows : List Row) (slots : List Slot) (i : ℕ) (places : List ℕ) (formulas : List Formula) : Type 0 where

@@ -1,7 +1,8 @@
-//! The plan of a netlist is made: its rows of cells, its slots in the order of levels, and the bits at
-//! clock 0.
-ghost use Rattle.std.specs.Prelude.{◌≡◌, ℕ, ◌<◌, ◌≤◌, ◌^◌, ◌+◌, List, [], ◌∷◌, ◌++◌, Some, IfOk, IfSome, OnOk, not, filter, length, sum_by, slice_get, slice_index};
+//! The plan of a netlist is made: its rows of cells and its registers, its slots in the order of levels,
+//! and the bits at clock 0.
+ghost use Rattle.std.specs.Prelude.{◌≡◌, ℕ, ◌<◌, ◌≤◌, ◌^◌, ◌+◌, List, [], ◌∷◌, ◌++◌, Some, IfOk, IfSome, OnOk, not, filter, map, length, sum_by, slice_get, slice_index};
 ghost use Rattle.std.specs.List.Sorted.{IsPermutation, IsNonDecreasingBy};
+ghost use Rattle.clock_sim.specs.declared.plan.Row.{Row as RowOf};
 ghost use Rattle.clock_sim.specs.declared.plan.Slot.{Slot as SlotOf};
 ghost use Rattle.net_core.specs.CellTable as kinds;
 ghost use Rattle.net_core.specs.Netlist.{Netlist, input_nets, net_count, numbers as numbers_of, port_nets, is_clock};
@@ -10,7 +11,7 @@ ghost use Rattle.net_core.specs.Run.{IsStart};
 ghost use Rattle.net_core.specs.Cycle.{IsRanked};
 ghost use Rattle.net_core.specs.declared.parts.Cell.{Cell as CellOf};
 ghost use Rattle.clock_sim.specs.Reading.{place_of, places_of};
-ghost use Rattle.clock_sim.specs.Plan.{base_of, stored_bit, AreRowsTo, AreFormulasTo, AreSlots, IsPlan, HasConstants, IsStartTo, cell_slots, all_slots};
+ghost use Rattle.clock_sim.specs.Plan.{base_of, stored_bit, row_of, AreRowsTo, AreRegisters, AreFormulasTo, AreSlots, IsPlan, HasConstants, IsStartTo, cell_slots, all_slots};
 
 use crate::bits::Bits;
 use crate::plan::{Formula, Row, Slot};
@@ -54,6 +55,30 @@ fn push_places(places: &mut Vec<u32>, ins: &[Pin]) -> Result<(), NoMemory>
     Ok(())
 }
 
+// Adds the row of a cell, and the places of its pins.
+fn push_row(
+    places: &mut Vec<u32>,
+    rows: &mut Vec<Row>,
+    cell: &Cell,
+    base: usize,
+) -> Result<(), NoMemory>
+    requires few { length places.old.items + length cell.now.ins < 2 ^ 32 }
+    requires nets { (i : ℕ) (pin : _) → slice_get cell.now.ins i ≡ Some pin → place_of pin < 2 ^ 32 }
+    ensures pins { OnOk result (places.new.items ≡ places.old.items ++ places_of cell.now.ins) }
+    ensures row { OnOk result (rows.new.items ≡ rows.old.items ++ row_of cell.now (length places.old.items) base ∷ []) }
+{
+    let first = places.len() as u32;
+    push_places(places, cell.ins.as_slice())?;
+    let last = places.len() as u32;
+    rows.push(Row {
+        kind: cell.kind,
+        first,
+        last,
+        base,
+    })?;
+    Ok(())
+}
+
 /// The rows of the cells, with the places of their pins in one list. It takes time linear in the cells
 /// and pins.
 pub fn push_rows(
@@ -70,18 +95,46 @@ pub fn push_rows(
 {
     let mut base = 0usize;
     for cell in cells {
-        let first = places.len() as u32;
-        push_places(places, cell.ins.as_slice())?;
-        let last = places.len() as u32;
-        rows.push(Row {
-            kind: cell.kind,
-            first,
-            last,
-            base,
-        })?;
+        push_row(places, rows, cell, base)?;
         base += content_size(cell.kind);
     }
     Ok(base)
+}
+
+/// The registers, which are the rows of the cells that store bits, with the places of their pins in a list
+/// of their own. It takes time linear in the cells and pins.
+pub fn push_registers(
+    places: &mut Vec<u32>,
+    registers: &mut Vec<Row>,
+    cells: &[Cell],
+) -> Result<(), NoMemory>
+    requires start { (places.old.items ≡ []) × (registers.old.items ≡ []) }
+    requires few { length cells.now ≤ 1048576 }
+    requires pins { sum_by (λ (cell : CellOf). length cell.ins) cells.now ≤ 16777216 }
+    requires allowed { (c : ℕ) (cell : _) → slice_get cells.now c ≡ Some cell → kinds.IsAllowed cell.kind }
+    requires nets { (c i : ℕ) (cell : _) (pin : _) → slice_get cells.now c ≡ Some cell → slice_get cell.ins i ≡ Some pin → place_of pin < 2 ^ 32 }
+    ensures { OnOk result (AreRegisters cells.now places.new.items registers.new.items) }
+{
+    let mut base = 0usize;
+    for cell in cells {
+        let size = content_size(cell.kind);
+        if size > 0 {
+            push_row(places, registers, cell, base)?;
+        }
+        base += size;
+    }
+    Ok(())
+}
+
+/// The first stored bit of each row.
+pub fn first_bits(alloc: Global, rows: &[Row]) -> Result<Vec<usize>, NoMemory>
+    ensures { IfOk result (λ bases. bases.items ≡ map (λ (row : RowOf). row.base) rows.now) }
+{
+    let mut bases = Vec::new(alloc);
+    for row in rows {
+        bases.push(row.base)?;
+    }
+    Ok(bases)
 }
 
 // Adds a slot for each data output of a cell.

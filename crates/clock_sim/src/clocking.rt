@@ -3,7 +3,7 @@ ghost use Rattle.net_core.specs.CellTable as kinds;
 ghost use Rattle.clock_sim.specs.Reading.{bit_at_place, read_all, HasMemoryPins};
 ghost use Rattle.net_core.specs.declared.kind.CellKind.TheVariants.{Mem};
 ghost use Rattle.net_core.specs.Netlist.{Netlist};
-ghost use Rattle.clock_sim.specs.Plan.{IsPlan, IsWithin, HasPinsWithin, AreWithin, IsSettledTo, HasConstants, IsPlaced, HasRows, AdvancesRow, WritesRow, IsAdvancedTo};
+ghost use Rattle.clock_sim.specs.Plan.{IsPlan, IsWithin, HasPinsWithin, AreWithin, IsSettledTo, HasConstants, IsPlaced, AreApart, AdvancesRow, WritesRow, IsAdvancedTo};
 
 use crate::bits::Bits;
 use crate::evaluate::{lut_output, next_bit, output, read, row_number};
@@ -51,19 +51,20 @@ pub fn place_inputs(values: &mut Vec<bool>, inputs: &[u32], row: &[bool])
     }
 }
 
-/// Gives each cell the stored bits of the next clock. The stored bits of the cells stand one after the
-/// other, so that no cell's are changed by another.
-pub fn advance(stored: &mut Bits, values: &[bool], pins: &[u32], rows: &[Row])
-    requires rows { IsWithin pins.now rows.now (length stored.old) }
-    ensures { (net : Netlist) → HasRows net values.now pins.now rows.now → IsAdvancedTo net values.now (length rows.now) stored.old stored.new }
+/// Gives each register the stored bits of the next clock. Their stored bits stand one after the other, so
+/// that no register's are changed by another.
+pub fn advance(stored: &mut Bits, values: &[bool], pins: &[u32], registers: &[Row])
+    requires within { IsWithin pins.now registers.now (length stored.old) }
+    requires apart { AreApart registers.now }
+    ensures { IsAdvancedTo values.now pins.now registers.now (length registers.now) stored.old stored.new }
 {
-    for row in rows {
+    for row in registers {
         let own = &pins[row.first as usize..row.last as usize];
         advance_row(stored, values, own, row);
     }
 }
 
-// The stored bits of one cell.
+// The stored bits of one register.
 fn advance_row(stored: &mut Bits, values: &[bool], own: &[u32], row: &Row)
     requires few { length stored.old < 2 ^ 64 }
     requires base { row.now.base + kinds.content_size row.now.kind ≤ length stored.old }

@@ -6,7 +6,8 @@ ghost use Rattle.clock_sim.specs.Plan.{net_bits, net_content};
 
 use crate::bits::Bits;
 use crate::build::{
-    count_nets, data_inputs, ordered_slots, push_formulas, push_rows, start_stored, start_values,
+    count_nets, data_inputs, first_bits, ordered_slots, push_formulas, push_registers, push_rows,
+    start_stored, start_values,
 };
 use crate::clocking::{advance, place_inputs, settle};
 use crate::evaluate::bit_number;
@@ -23,8 +24,9 @@ use std::marker::Model;
 pub struct Plain<'a> {
     flat: &'a Flat,
     inputs: Vec<u32>,
+    bases: Vec<usize>,
     pins: Vec<u32>,
-    rows: Vec<Row>,
+    registers: Vec<Row>,
     places: Vec<u32>,
     formulas: Vec<Formula>,
     values: Vec<bool>,
@@ -38,7 +40,7 @@ impl<'a> Model for Plain<'a> {
 
     ghost view = { λ plain. record { net = plain.flat.now; values = plain.values.items; stored = plain.stored } };
 
-    ghost invariant = { λ plain. KeepsPlan plain.flat.now plain.inputs.items plain.pins.items plain.rows.items plain.places.items plain.formulas.items plain.values.items plain.stored };
+    ghost invariant = { λ plain. KeepsPlan plain.flat.now plain.inputs.items plain.bases.items plain.pins.items plain.registers.items plain.places.items plain.formulas.items plain.values.items plain.stored };
 }
 
 impl<'a> Plain<'a> {
@@ -50,16 +52,20 @@ impl<'a> Plain<'a> {
         ensures stands { IfOk result (λ plain. StandsFor flat.now (net_bits plain) (net_content plain) []) }
     {
         let inputs = data_inputs(alloc, flat)?;
-        let mut pins = Vec::new(alloc);
+        let mut row_pins = Vec::new(alloc);
         let mut rows = Vec::new(alloc);
-        let count = push_rows(&mut pins, &mut rows, flat.cells())?;
+        let count = push_rows(&mut row_pins, &mut rows, flat.cells())?;
+        let bases = first_bits(alloc, rows.as_slice())?;
+        let mut pins = Vec::new(alloc);
+        let mut registers = Vec::new(alloc);
+        push_registers(&mut pins, &mut registers, flat.cells())?;
         let slots = ordered_slots(alloc, flat, levels)?;
         let mut places = Vec::new(alloc);
         let mut formulas = Vec::new(alloc);
         push_formulas(
             &mut places,
             &mut formulas,
-            pins.as_slice(),
+            row_pins.as_slice(),
             rows.as_slice(),
             slots.as_slice(),
         )?;
@@ -68,8 +74,9 @@ impl<'a> Plain<'a> {
         Ok(Plain {
             flat,
             inputs,
+            bases,
             pins,
-            rows,
+            registers,
             places,
             formulas,
             values,
@@ -97,7 +104,7 @@ impl<'a> Machine for Plain<'a> {
             &mut self.stored,
             self.values.as_slice(),
             self.pins.as_slice(),
-            self.rows.as_slice(),
+            self.registers.as_slice(),
         );
     }
 
@@ -106,7 +113,7 @@ impl<'a> Machine for Plain<'a> {
     }
 
     fn stored(&self, cell: CellId, index: u32) -> bool {
-        let base = self.rows[cell.0 as usize].base;
+        let base = self.bases[cell.0 as usize];
         self.stored.get(base + index as usize)
     }
 }

@@ -1,8 +1,8 @@
 //! The plan of a netlist: its cells and outputs as arrays of numbers.
 //!
-//! Settling goes through the outputs in the order of levels, and advancing through the cells in their own
-//! order. So that each reads its arrays from front to back, both have pins of their own: on a large
-//! netlist, a jump to another part of an array takes longer than the evaluation of a cell.
+//! Settling goes through the outputs in the order of levels, and advancing through the cells that store
+//! bits, in their own order. So that each reads its arrays from front to back, both have pins of their own:
+//! on a large netlist, a jump to another part of an array takes longer than the evaluation of a cell.
 
 use net_core::CellKind;
 

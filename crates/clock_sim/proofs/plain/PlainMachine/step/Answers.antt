@@ -5,7 +5,7 @@ use Rattle.clock_sim.specs.declared.plan.Row.{Row}
 use Rattle.clock_sim.specs.declared.plan.Slot.{Slot}
 use Rattle.clock_sim.specs.declared.plan.Formula.{Formula}
 use Rattle.clock_sim.specs.Reading.{net_bit}
-use Rattle.clock_sim.specs.Plan.{State, IsPlan, HasPinsWithin, IsPlaced, IsSettledTo, HasRows, IsAdvancedTo, stored_bit, net_bits, net_content}
+use Rattle.clock_sim.specs.Plan.{State, IsPlan, HasPinsWithin, IsPlaced, IsSettledTo, IsAdvancedTo, stored_bit, net_bits, net_content}
 use Rattle.clock_sim.proofs.PlainLemmas.{keeps_after, stands_after}
 use Rattle.clock_sim.proofs.plain.PlainMachine.step.Goals as goal
 use Rattle.clock_sim.proofs.plain.PlainMachine.step.Goals.{After-advance}
@@ -28,17 +28,16 @@ settled c =
     (subst (λ (formulas : List Formula). (net : Netlist) (rank : ℕ → ℕ) (slots : List Slot) → IsPlan net rank slots c.as_slice-2.result.now formulas → IsSettledTo net slots c.self.inside.stored (length slots) c.place_inputs.new.values.items c.settle.new.values.items) c.as_slice-3.ensures.value
     c.settle.ensures)
 
-advanced : (c : After-advance) → (net : Netlist) → HasRows net c.settle.new.values.items c.self.inside.pins.items c.self.inside.rows.items
-    → IsAdvancedTo net c.settle.new.values.items (length c.self.inside.rows.items) c.self.inside.stored c.advance.new.stored
+advanced : (c : After-advance) → IsAdvancedTo c.settle.new.values.items c.self.inside.pins.items c.self.inside.registers.items (length c.self.inside.registers.items) c.self.inside.stored c.advance.new.stored
 advanced c =
-    subst (λ (values : List Bool). (net : Netlist) → HasRows net values c.self.inside.pins.items c.self.inside.rows.items → IsAdvancedTo net values (length c.self.inside.rows.items) c.self.inside.stored c.advance.new.stored) c.as_slice-4.ensures.value
-    (subst (λ (pins : List ℕ). (net : Netlist) → HasRows net c.as_slice-4.result.now pins c.self.inside.rows.items → IsAdvancedTo net c.as_slice-4.result.now (length c.self.inside.rows.items) c.self.inside.stored c.advance.new.stored) c.as_slice-5.ensures.value
-    (subst (λ (rows : List Row). (net : Netlist) → HasRows net c.as_slice-4.result.now c.as_slice-5.result.now rows → IsAdvancedTo net c.as_slice-4.result.now (length rows) c.self.inside.stored c.advance.new.stored) c.as_slice-6.ensures.value
+    subst (λ (values : List Bool). IsAdvancedTo values c.self.inside.pins.items c.self.inside.registers.items (length c.self.inside.registers.items) c.self.inside.stored c.advance.new.stored) c.as_slice-4.ensures.value
+    (subst (λ (pins : List ℕ). IsAdvancedTo c.as_slice-4.result.now pins c.self.inside.registers.items (length c.self.inside.registers.items) c.self.inside.stored c.advance.new.stored) c.as_slice-5.ensures.value
+    (subst (λ (registers : List Row). IsAdvancedTo c.as_slice-4.result.now c.as_slice-5.result.now registers (length registers) c.self.inside.stored c.advance.new.stored) c.as_slice-6.ensures.value
     c.advance.ensures))
 
 pub invariant_of-self : goal.invariant_of-self
 invariant_of-self c =
-    keeps_after c.self.inside.flat.now c.self.inside.inputs.items c.self.inside.pins.items c.self.inside.rows.items c.self.inside.places.items c.self.inside.formulas.items c.self.inside.values.items c.self.inside.stored c.self.invariant
+    keeps_after c.self.inside.flat.now c.self.inside.inputs.items c.self.inside.bases.items c.self.inside.pins.items c.self.inside.registers.items c.self.inside.places.items c.self.inside.formulas.items c.self.inside.values.items c.self.inside.stored c.self.invariant
     c.args.inputs.now c.place_inputs.new.values.items c.settle.new.values.items c.advance.new.stored (size c) (placed c) (settled c) (advanced c)
 
 pub returns-clause-stands : goal.returns-clause-stands
@@ -46,5 +45,5 @@ returns-clause-stands c = λ history stands.
     let before : StandsFor c.self.inside.flat.now (net_bit c.self.inside.values.items) (stored_bit c.self.inside.flat.now.cells c.self.inside.stored) history =
     subst (λ (state : State). StandsFor state.net (net_bits state) (net_content state) history) (sym c.self.view_is) stands in
     subst (λ (net : Netlist). StandsFor net (net_bit c.settle.new.values.items) (stored_bit c.self.inside.flat.now.cells c.advance.new.stored) (history ++ c.args.inputs.now ∷ [])) (ap (λ (state : State). state.net) c.self.view_is)
-    (stands_after c.self.inside.flat.now c.self.inside.inputs.items c.self.inside.pins.items c.self.inside.rows.items c.self.inside.places.items c.self.inside.formulas.items c.self.inside.values.items c.self.inside.stored c.self.invariant
+    (stands_after c.self.inside.flat.now c.self.inside.inputs.items c.self.inside.bases.items c.self.inside.pins.items c.self.inside.registers.items c.self.inside.places.items c.self.inside.formulas.items c.self.inside.values.items c.self.inside.stored c.self.invariant
     c.args.inputs.now c.place_inputs.new.values.items c.settle.new.values.items c.advance.new.stored (size c) (placed c) (settled c) (advanced c) history before)
