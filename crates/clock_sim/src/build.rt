@@ -118,7 +118,8 @@ pub fn push_registers(
     let mut base = 0usize;
     for cell in cells {
         let size = content_size(cell.kind);
-        if size > 0 {
+        let stores = size > 0;
+        if stores {
             push_row(places, registers, cell, base)?;
         }
         base += size;
