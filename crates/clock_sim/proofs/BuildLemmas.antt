@@ -1,7 +1,7 @@
 -- The plan as it is made.
 use Rattle.std.proofs.Common.{◌≡◌, ℕ, zero, suc, ◌+◌, ◌-◌, ◌*◌, ◌^◌, ◌<◌, ◌≤◌, List, [], ◌∷◌, ◌++◌, length, take, drop, sum_by, slice_get, slice_range, Some, refl, ap, sym, ◌∙◌, subst, arith, inl, inr, ◌⊎◌, pow_mono}
 use Rattle.std.proofs.lemmas.List.{length-map, length-append, take-append-le, length-drop}
-use Rattle.std.proofs.lemmas.List.Sums.{sum_by-cons, sum_by_push, sum_by-take-le}
+use Rattle.std.proofs.lemmas.List.Sums.{sum_by-cons, sum_by_push}
 use Rattle.std.proofs.lemmas.Option.{same_Some, slice_get_within}
 use Rattle.std.proofs.Math.Nat.{mul-le-mul_left, mul_comm}
 use Rattle.std.proofs.Math.Seq.{drop-append_seam}
@@ -124,10 +124,6 @@ rows_none cells places rows no_places no_rows = record {
 pub pins_more : (cells : List Cell) (i : ℕ) (cell : Cell) → slice_get cells i ≡ Some cell
     → sum_by (λ (cell : Cell). length cell.ins) (take (i + 1) cells) ≡ sum_by (λ (cell : Cell). length cell.ins) (take i cells) + length cell.ins
 pins_more cells i cell at = ap (sum_by (λ (cell : Cell). length cell.ins)) (take_one_more cells i cell at) ∙ sum_by_push (λ (cell : Cell). length cell.ins) (take i cells) cell
-
--- the pins of the first cells and of one more are among those of all
-pub pins_fit : (cells : List Cell) (i : ℕ) (cell : Cell) → slice_get cells i ≡ Some cell → sum_by (λ (cell : Cell). length cell.ins) (take i cells) + length cell.ins ≤ sum_by (λ (cell : Cell). length cell.ins) cells
-pins_fit cells i cell at = omega (arith, pins_more cells i cell at, sum_by-take-le (λ (cell : Cell). length cell.ins) cells (i + 1))
 
 pub rows_more : (cells : List Cell) (i : ℕ) (cell : Cell) (places grown : List ℕ) (rows more : List Row) (base next : ℕ) → slice_get cells i ≡ Some cell → AreRowsTo cells i places rows base
     → grown ≡ places ++ places_of cell.ins → more ≡ rows ++ row_of cell (length places) base ∷ [] → next ≡ base + content_size cell.kind → AreRowsTo cells (i + 1) grown more next

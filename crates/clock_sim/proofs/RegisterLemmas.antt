@@ -13,19 +13,6 @@ use Rattle.clock_sim.specs.Plan.{base_of, row_of, IsRow, AreRegisters}
 use Rattle.clock_sim.proofs.AdvanceLemmas.{base_apart}
 use Rattle.clock_sim.proofs.BuildLemmas.{grown_by_one, row_stays, row_new}
 
-pub registers_none : (pins : List ℕ) (registers : List Row) → registers ≡ [] → AreRegisters [] pins registers
-registers_none pins registers none = record {
-  sound = λ j row at. absurd (none_at j row (sym (ap (λ rs. slice_get rs j) none) ∙ at));
-  complete = λ c cell at stores. absurd (no_cell c cell at);
-  apart = λ i j a b at_a at_b low. absurd (none_at i a (sym (ap (λ rs. slice_get rs i) none) ∙ at_a));
-}
-  where
-    none_at : (j : ℕ) (row : Row) → slice_get {X = Row} [] j ≡ Some row → ⊥
-    none_at j row at = cc at
-
-    no_cell : (c : ℕ) (cell : Cell) → slice_get {X = Cell} [] c ≡ Some cell → ⊥
-    no_cell c cell at = cc at
-
 module _ (cells : List Cell) (cell : Cell) (pins : List ℕ) (registers : List Row) (so_far : AreRegisters cells pins registers) where
   -- the first stored bits of the cells stay when there is a cell more
   base_stays : (c : ℕ) → c ≤ length cells → base_of (cells ++ cell ∷ []) c ≡ base_of cells c
@@ -113,10 +100,6 @@ module _ (cells : List Cell) (cell : Cell) (pins : List ℕ) (registers : List R
       ]
 
 -- The registers of the first cells
-
-pub registers_start : (cells : List Cell) (pins : List ℕ) (registers : List Row) → registers ≡ [] → AreRegisters (take 0 cells) pins registers
-registers_start [] pins registers none = registers_none pins registers none
-registers_start (cell ∷ cells) pins registers none = registers_none pins registers none
 
 pub registers_skip : (cells : List Cell) (i : ℕ) (cell : Cell) (pins : List ℕ) (registers : List Row) → slice_get cells i ≡ Some cell → AreRegisters (take i cells) pins registers → content_size cell.kind ≡ 0
     → AreRegisters (take (i + 1) cells) pins registers
