@@ -47,9 +47,6 @@ base_rises (first ∷ cells) (suc c) (suc d) low =
 pub base_apart : (cells : List Cell) (c d : ℕ) (cell : Cell) → slice_get cells c ≡ Some cell → c < d → base_of cells c + content_size cell.kind ≤ base_of cells d
 base_apart cells c d cell at low = omega (arith, base_more cells c cell at, base_rises cells (c + 1) d (omega (arith, low)))
 
-pub advanced_none : (values : List Bool) (pins : List ℕ) (registers : List Row) (old : List Bool) → IsAdvancedTo values pins registers 0 old old
-advanced_none values pins registers old = record { size = refl; next = λ j row k low at stores. absurd (omega (arith, low)); kept = λ k free. refl }
-
 pub advanced_more : (values : List Bool) (pins : List ℕ) (registers : List Row) → AreApart registers → (i : ℕ) (row : Row) (old now new : List Bool) → slice_get registers i ≡ Some row
     → AdvancesRow row.kind row.base (read_all values (slice_range pins row.first row.last)) now new → IsAdvancedTo values pins registers i old now → IsAdvancedTo values pins registers (i + 1) old new
 advanced_more values pins registers apart i row old now new at step so_far = record {

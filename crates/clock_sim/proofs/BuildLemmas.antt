@@ -102,25 +102,6 @@ row_new cells places c cell base at = record {
   room = omega (arith, length-append places (places_of cell.ins), length-map cell.ins place_of);
 }
 
-pub rows_none : (cells : List Cell) (places : List ℕ) (rows : List Row) → places ≡ [] → rows ≡ [] → AreRowsTo cells 0 places rows 0
-rows_none cells places rows no_places no_rows = record {
-  size = ap length no_rows;
-  place_count = ap length no_places ∙ none cells;
-  next_base = none_base cells;
-  each = λ c cell row at there. absurd (none_at c row (sym (ap (λ rs. slice_get rs c) no_rows) ∙ there));
-}
-  where
-    none : (cells : List Cell) → 0 ≡ sum_by (λ (cell : Cell). length cell.ins) (take 0 cells)
-    none [] = refl
-    none (cell ∷ cells) = refl
-
-    none_base : (cells : List Cell) → 0 ≡ base_of cells 0
-    none_base [] = refl
-    none_base (cell ∷ cells) = refl
-
-    none_at : (c : ℕ) (row : Row) → slice_get {X = Row} [] c ≡ Some row → ⊥
-    none_at c row at = cc at
-
 pub pins_more : (cells : List Cell) (i : ℕ) (cell : Cell) → slice_get cells i ≡ Some cell
     → sum_by (λ (cell : Cell). length cell.ins) (take (i + 1) cells) ≡ sum_by (λ (cell : Cell). length cell.ins) (take i cells) + length cell.ins
 pins_more cells i cell at = ap (sum_by (λ (cell : Cell). length cell.ins)) (take_one_more cells i cell at) ∙ sum_by_push (λ (cell : Cell). length cell.ins) (take i cells) cell
@@ -144,15 +125,6 @@ rows_more cells i cell places grown rows more base next at so_far grows pushed a
           (subst (λ (o : Cell). IsRow cells (places ++ places_of cell.ins) c o (row_of cell (length places) base)) is_cell
           (row_new cells places c cell base (so_far.next_base ∙ ap (base_of cells) (sym place)))))
     ])
-
-pub formulas_none : (pins : List ℕ) (rows : List Row) (slots : List Slot) (places : List ℕ) (formulas : List Formula) → formulas ≡ [] → AreFormulasTo pins rows slots 0 places formulas
-formulas_none pins rows slots places formulas none = record {
-  size = ap length none;
-  each = λ j slot row formula at on there. absurd (none_at j formula (sym (ap (λ fs. slice_get fs j) none) ∙ there));
-}
-  where
-    none_at : (j : ℕ) (formula : Formula) → slice_get {X = Formula} [] j ≡ Some formula → ⊥
-    none_at j formula at = cc at
 
 pub formulas_more : (pins : List ℕ) (rows : List Row) (slots : List Slot) (i : ℕ) (slot : Slot) (row : Row) (places grown : List ℕ) (formulas more : List Formula) (formula : Formula)
     → slice_get slots i ≡ Some slot → slice_get rows slot.cell ≡ Some row → AreFormulasTo pins rows slots i places formulas
