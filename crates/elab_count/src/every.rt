@@ -1,4 +1,4 @@
-ghost use Rattle.std.specs.Prelude.{◌≡◌, ℕ, ◌-◌, ◌<◌, ◌^◌, ◌↔◌, true, List, length, Some, IfOk, OnOk};
+ghost use Rattle.std.specs.Prelude.{◌≡◌, ℕ, ◌-◌, ◌<◌, ◌^◌, ◌↔◌, true, List, length, Some, IfOk};
 ghost use Rattle.vlog_parse.specs.ReadTree.{IsReadTree};
 ghost use Rattle.vlog_check.specs.Checked.{IsChecked, IsBelow};
 ghost use Rattle.vlog_check.specs.Scope.{module_number};
@@ -6,13 +6,14 @@ ghost use Rattle.net_graph.specs.Graph.{IsCycle, Leads};
 ghost use Rattle.net_graph.specs.Reach.{is_marked};
 ghost use Rattle.elab_scope.specs.Counting.{AreCounts, IsPart};
 ghost use Rattle.elab_scope.specs.Modules.{AreNumbered};
+ghost use Rattle.elab_scope.specs.Nets.{AreNetsOfAll};
 ghost use Rattle.elab_count.specs.Amounts.{AreCapped};
 ghost use Rattle.elab_count.specs.Instances.{AreInOrder, AreSorted, IsSorting};
 ghost use Rattle.elab_count.specs.Progress.{IsOneCounted, AreCountedTo};
 
 use crate::graph::instance_graph;
 use crate::items::count_module;
-use elab_scope::{Count, Counts, Modules, read_modules};
+use elab_scope::{Count, Counts, Modules, Nets, read_modules};
 use ila_base::NoMemory;
 use net_graph::{Graph, Order, ranks, reaching};
 use std::alloc::Global;
@@ -75,35 +76,37 @@ fn in_order(alloc: Global, modules: &Modules, wanted: &[bool]) -> Result<Vec<(u3
 
 // Counts the module with a number, if it is wanted.
 fn count_one(
-    alloc: Global,
     modules: &Modules,
+    nets: &[Nets],
     wanted: bool,
     k: usize,
     table: &mut Vec<Option<Count>>,
-) -> Result<(), NoMemory>
+)
     requires numbered { AreNumbered modules.now }
+    requires nets { AreNetsOfAll (modules.now.tree.now).modules nets.now }
     requires within { k < length (modules.now.tree.now).modules }
     requires size { length table.old.items ≡ length (modules.now.tree.now).modules }
     requires capped { AreCapped table.old.items }
-    ensures { OnOk result (IsOneCounted modules.now.tree.now wanted k table.old.items table.new.items) }
+    ensures { IsOneCounted modules.now.tree.now wanted k table.old.items table.new.items }
 {
     if !wanted {
-        return Ok(());
+        return;
     }
     let m = &modules.tree.modules.as_slice()[k];
-    let count = count_module(alloc, modules, table.as_slice(), m)?;
+    let count = count_module(modules, table.as_slice(), m, &nets[k]);
     table[k] = Some(count);
-    Ok(())
 }
 
 // The counts of the wanted modules, which are taken in order.
 fn count_wanted(
     alloc: Global,
     modules: &Modules,
+    nets: &[Nets],
     wanted: &[bool],
     order: &[(u32, u32)],
 ) -> Result<Vec<Option<Count>>, NoMemory>
     requires numbered { AreNumbered modules.now }
+    requires nets { AreNetsOfAll (modules.now.tree.now).modules nets.now }
     requires size { length wanted.now ≡ length (modules.now.tree.now).modules }
     requires order { AreInOrder modules.now.tree.now wanted.now order.now }
     ensures { IfOk result (λ table. AreCountedTo modules.now.tree.now wanted.now order.now (length order.now) table.items) }
@@ -111,20 +114,26 @@ fn count_wanted(
     let mut table = vec![in alloc; None; wanted.len()]?;
     for node in order {
         let k = node.1 as usize;
-        count_one(alloc, modules, wanted[k], k, &mut table)?;
+        count_one(modules, nets, wanted[k], k, &mut table);
     }
     Ok(table)
 }
 
-/// What the top of a checked tree and the modules below it count.
-pub fn count_all(alloc: Global, tree: &Tree, top: usize) -> Result<Counts, NoMemory>
+/// What the top of a checked tree and the modules below it count, given the nets of all modules.
+pub fn count_all(
+    alloc: Global,
+    tree: &Tree,
+    nets: &[Nets],
+    top: usize,
+) -> Result<Counts, NoMemory>
     requires read { IsReadTree tree.now }
+    requires nets { AreNetsOfAll tree.now.modules nets.now }
     requires checked { (name : List ℕ) × IsChecked tree.now name × (module_number tree.now name ≡ Some top) }
     ensures { IfOk result (λ counts. AreCounts tree.now top counts.table.items) }
 {
     let modules = read_modules(alloc, tree)?;
     let below = below_top(alloc, &modules, top)?;
     let order = in_order(alloc, &modules, below.as_slice())?;
-    let table = count_wanted(alloc, &modules, below.as_slice(), order.as_slice())?;
+    let table = count_wanted(alloc, &modules, nets, below.as_slice(), order.as_slice())?;
     Ok(Counts { table })
 }

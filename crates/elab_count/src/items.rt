@@ -1,4 +1,4 @@
-ghost use Rattle.std.specs.Prelude.{◌≡◌, ℕ, map, length, codes, IfOk};
+ghost use Rattle.std.specs.Prelude.{◌≡◌, ℕ, map, length, codes};
 ghost use Rattle.vlog_parse.specs.declared.tree.Module.{Module as ModuleOf};
 ghost use Rattle.std.specs.Option.{unwrap_or};
 ghost use Rattle.vlog_check.specs.Cells.{number_in};
@@ -11,9 +11,8 @@ ghost use Rattle.elab_scope.specs.Nets.{AreNets, named_nets};
 ghost use Rattle.elab_count.specs.Amounts.{saturated, AreCapped};
 
 use crate::exprs::{width_of, width_of_conns};
-use elab_scope::{Count, MOST, Modules, Nets, Part, part_of, read_nets};
-use ila_base::{Name, NoMemory};
-use std::alloc::Global;
+use elab_scope::{Count, MOST, Modules, Nets, Part, part_of};
+use ila_base::Name;
 use vlog_check::{Primitive, Size, pins, range_width};
 use vlog_parse::{Gate, Inst, Item, Module, Range, Value};
 
@@ -145,21 +144,16 @@ fn count_nets(nets: &Nets) -> Count
     count
 }
 
-/// What a module has, where the modules of its instances were counted before.
-pub fn count_module(
-    alloc: Global,
-    modules: &Modules,
-    counts: &[Option<Count>],
-    m: &Module,
-) -> Result<Count, NoMemory>
+/// What a module with these nets has, where the modules of its instances were counted before.
+pub fn count_module(modules: &Modules, counts: &[Option<Count>], m: &Module, nets: &Nets) -> Count
     requires numbered { AreNumbered modules.now }
     requires capped { AreCapped counts.now }
-    ensures { IfOk result (λ count. count ≡ counting.capped (counting.module_count modules.now.tree.now counts.now m.now)) }
+    requires nets { AreNets m.now nets.now }
+    ensures { result ≡ counting.capped (counting.module_count modules.now.tree.now counts.now m.now) }
 {
-    let nets = read_nets(alloc, m)?;
-    let mut count = count_nets(&nets);
+    let mut count = count_nets(nets);
     for item in m.items.as_slice() {
-        count = count.with(count_item(&nets, modules, counts, item));
+        count = count.with(count_item(nets, modules, counts, item));
     }
-    Ok(count)
+    count
 }

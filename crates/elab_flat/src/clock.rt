@@ -5,9 +5,10 @@ ghost use Rattle.std.specs.Option.{option_map};
 ghost use Rattle.vlog_parse.specs.declared.tree.Dir.TheVariants as dirs;
 ghost use Rattle.vlog_parse.specs.ReadTree.{In};
 ghost use Rattle.vlog_check.specs.Scope as look;
+ghost use Rattle.elab_scope.specs.Nets.{AreNets};
 ghost use Rattle.elab_flat.specs.Above.{IsClockIn};
 
-use elab_scope::read_nets;
+use elab_scope::Nets;
 use elab_unfold::read_directions;
 use ila_base::{Name, NoMemory};
 use std::alloc::Global;
@@ -51,12 +52,12 @@ fn is_one_bit(range: Option<Option<Range>>) -> bool
     }
 }
 
-/// Whether the name is that of a one-bit input of a module.
-pub fn is_clock(alloc: Global, m: &Module, name: &[u8]) -> Result<bool, NoMemory>
+/// Whether the name is that of a one-bit input of a module with these nets.
+pub fn is_clock(alloc: Global, m: &Module, nets: &Nets, name: &[u8]) -> Result<bool, NoMemory>
+    requires { AreNets m.now nets.now }
     ensures { IfOk result (λ there. IsTrue there ↔ IsClockIn m.now name.now) }
 {
     let directions = read_directions(alloc, m)?;
-    let nets = read_nets(alloc, m)?;
     let port = is_port(m, name);
     let input = is_input(directions.get(name));
     let bit = is_one_bit(nets.ranges.get(name));

@@ -14,6 +14,7 @@ ghost use Rattle.elab_design.specs.Elaborates.{Elaborates};
 ghost use Rattle.elab_flat.specs.declared.limits.Above.{Above as AboveOf};
 ghost use Rattle.elab_flat.specs.Above.{IsClockIn, IsAbove, IsFirstAbove, IsFaultBefore, IsUnsettled, nowhere};
 ghost use Rattle.elab_scope.specs.Counting.{count_at};
+ghost use Rattle.elab_scope.specs.Nets.{AreNets};
 ghost use Rattle.flat_settle.specs.declared.raw.Raw.{Raw as RawOf};
 
 use crate::clock::is_clock;
@@ -21,7 +22,7 @@ use crate::limits::first_above;
 use elab_amounts::counts_are_amounts;
 use elab_count::count_all;
 use elab_design::{elaborates, has_counts, one_fault, raw_is_unfolded};
-use elab_scope::{Count, Counts, read_modules};
+use elab_scope::{Count, Counts, Nets, read_all_nets, read_modules};
 use elab_unfold::unfold;
 use flat_settle::{Raw, Unsettled, settle};
 use ila_base::{Name, NetRefusal, NoMemory, Place};
@@ -55,10 +56,16 @@ fn fault(refusal: NetRefusal) -> NetFault
 }
 
 // Why the clock is refused, if it is no one-bit input of the top.
-fn clock_fault(alloc: Global, top: &Module, clock: &[u8]) -> Result<Option<NetFault>, NoMemory>
+fn clock_fault(
+    alloc: Global,
+    top: &Module,
+    nets: &Nets,
+    clock: &[u8],
+) -> Result<Option<NetFault>, NoMemory>
+    requires { AreNets top.now nets.now }
     ensures { IfOk result (λ found. MatchOption found (IsClockIn top.now clock.now) (λ f. (¬ IsClockIn top.now clock.now) × (f ≡ record { refusal = refusals.TopOrClock clock.now; place = nowhere }))) }
 {
-    if is_clock(alloc, top, clock)? {
+    if is_clock(alloc, top, nets, clock)? {
         return Ok(None);
     }
     let name = Name::new(alloc, clock)?;
@@ -120,12 +127,14 @@ fn count_of(counts: &Counts, number: usize) -> Count
 fn fault_before(
     alloc: Global,
     top: &Module,
+    nets: &Nets,
     clock: &[u8],
     count: Count,
 ) -> Result<Option<NetFault>, NoMemory>
+    requires { AreNets top.now nets.now }
     ensures { IfOk result (IsFaultBefore top.now clock.now count) }
 {
-    match clock_fault(alloc, top, clock)? {
+    match clock_fault(alloc, top, nets, clock)? {
         Some(found) => Ok(Some(found)),
         None => Ok(limit_fault(count)),
     }
@@ -146,12 +155,14 @@ fn flatten_tree(alloc: Global, tree: &Tree, name: &[u8], clock: &[u8]) -> Result
     raw_is_unfolded();
     counts_are_amounts();
     let top = top_number(alloc, tree, name)?;
-    let counts = count_all(alloc, tree, top)?;
+    let nets = read_all_nets(alloc, tree)?;
+    let nets = nets.as_slice();
+    let counts = count_all(alloc, tree, nets, top)?;
     let module = &tree.modules.as_slice()[top];
-    match fault_before(alloc, module, clock, count_of(&counts, top))? {
+    match fault_before(alloc, module, &nets[top], clock, count_of(&counts, top))? {
         Some(found) => Err(NetStop::Refused(found)),
         None => {
-            let raw = unfold(alloc, tree, name, clock, top, &counts)?;
+            let raw = unfold(alloc, tree, name, clock, top, nets, &counts)?;
             settled(alloc, raw)
         }
     }

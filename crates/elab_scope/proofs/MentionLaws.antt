@@ -15,7 +15,7 @@ use Rattle.vlog_check.proofs.NameLaws.{numbering_step}
 use Rattle.elab_design.specs.Order.{first_mentions}
 use Rattle.elab_design.proofs.MentionLaws.{names_same, among_more}
 use Rattle.elab_scope.specs.declared.nets.Reading.{Reading}
-use Rattle.elab_scope.specs.Nets.{rows_seen, net_named, nets_named, declared_names, IsMentioned}
+use Rattle.elab_scope.specs.Nets.{rows_seen, net_named, nets_named, IsMentioned}
 
 pub mention_where : Bool → List ℕ → List (List ℕ)
 mention_where true name = []
@@ -133,14 +133,7 @@ module _ (m : Module) (names : List (List ℕ)) (name : List ℕ) (old : Reading
         ∙ sym (nets_more m names name false (sym (mentioned.seen name) ∙ fresh));
   }
 
--- Loops over items and modules
-
-pub names_step : (ports : List (List ℕ)) (ys items : List Item) (i : ℕ) (item : Item) → ys ≡ items → i < length ys → item ≡ get_or ys i item
-    → (ports ++ declared_names (take i items)) ++ declared_names (item ∷ []) ≡ ports ++ declared_names (take (i + 1) items)
-names_step ports ys items i item same low is =
-    append_assoc ports (declared_names (take i items)) (declared_names (item ∷ [])) ∙ ap (λ names. ports ++ names)
-    (sym (map-append (λ (d : List ℕ × Option Range). d.0) (declared (take i items)) (declared (item ∷ []))) ∙ ap (map (λ (d : List ℕ × Option Range). d.0)) (sym (filter_map-append declared_by (take i items) (item ∷ [])))
-    ∙ ap declared_names (take_step ys items i item same low is))
+-- Loops over modules
 
 pub modules_step : (ys modules : List Module) (k : ℕ) (m : Module) (name : List ℕ) (old new : List (List ℕ × ℕ)) → ys ≡ modules → k < length ys → m ≡ get_or ys k m → name ≡ m.name
     → IsNumbering old (module_names (take k modules)) → ((other : List ℕ) → value_of new other ≡ option_or (value_of old other) (value_of ((name, k) ∷ []) other)) → IsNumbering new (module_names (take (k + 1) modules))

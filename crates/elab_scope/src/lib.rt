@@ -7,5 +7,5 @@ mod nets;
 mod numbers;
 
 pub use amounts::{Count, Counts, MOST};
-pub use nets::{Nets, read_nets};
+pub use nets::{Nets, read_all_nets};
 pub use numbers::{Modules, Part, part_of, read_modules};

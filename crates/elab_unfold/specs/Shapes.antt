@@ -101,7 +101,7 @@ pub record IsDead (d : Design) (m : Module) (item : Item) : Type 0 where
 pub record IsShape (plan : Plan) (m : Module) (shape : Shape) : Type 0 where
   pub holder : shape.places.holder.now ≡ m
   pub places : ArePlaces shape.places
-  pub order : map (λ net. (net.0.now, net.1)) shape.order.items ≡ named_nets m
+  pub order : map (λ net. (net.0.now, net.1)) shape.order.now ≡ named_nets m
   pub ports : ArePorts shape
   pub live : Item → Bool
   pub listed : map item_of shape.steps.items ≡ filter live m.items

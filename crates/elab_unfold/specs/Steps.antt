@@ -65,7 +65,7 @@ pub record AreSteps (tree : Tree) (table : List (Option Count)) (given : List It
 pub record IsReadShape (tree : Tree) (table : List (Option Count)) (m : Module) (c : Count) (shape : Shape) : Type 0 where
   pub holder : shape.places.holder.now ≡ m
   pub places : ArePlaces shape.places
-  pub order : map (λ net. (net.0.now, net.1)) shape.order.items ≡ named_nets m
+  pub order : map (λ net. (net.0.now, net.1)) shape.order.now ≡ named_nets m
   pub ports : ArePorts shape
   pub steps : AreSteps tree table m.items shape.steps.items
   pub size : shape.size ≡ c.nets

@@ -163,7 +163,7 @@ pub fn push_module(
 {
     let shape = shape_at(plan, number);
     let base = state.nets;
-    push_groups(alloc, shape.order.as_slice(), state)?;
+    push_groups(alloc, shape.order, state)?;
     for step in shape.steps.as_slice() {
         match step {
             Step::Own(own) => {

@@ -4,7 +4,7 @@ ghost use Rattle.vlog_parse.specs.declared.tree.Item.{Item as ItemOf};
 ghost use Rattle.vlog_check.specs.Scope as look;
 ghost use Rattle.elab_scope.specs.declared.amounts.Count.{Count as CountOf};
 ghost use Rattle.elab_scope.specs.Modules.{AreNumbered};
-ghost use Rattle.elab_scope.specs.Nets.{named_nets};
+ghost use Rattle.elab_scope.specs.Nets.{AreNets, AreNetsOfAll, named_nets};
 ghost use Rattle.elab_unfold.specs.Places.{ArePlaces, rows_width};
 ghost use Rattle.elab_unfold.specs.Shapes.{port_seen, port_entry};
 ghost use Rattle.elab_unfold.specs.Steps.{IsReadShape, AreShapes, directions_of};
@@ -12,7 +12,7 @@ ghost use Rattle.elab_unfold.specs.Steps.{IsReadShape, AreShapes, directions_of}
 use crate::places::{Places, place_nets};
 use crate::shape::{PortNet, Shape};
 use crate::steps::read_steps;
-use elab_scope::{Count, Modules, read_nets};
+use elab_scope::{Count, Modules, Nets};
 use ila_base::NoMemory;
 use std::alloc::Global;
 use vlog_check::Table;
@@ -85,18 +85,20 @@ fn read_shape<'a>(
     modules: &Modules,
     counts: &[Option<Count>],
     m: &'a Module,
+    nets: &'a Nets<'a>,
     count: Count,
 ) -> Result<Shape<'a>, NoMemory>
     requires modules { AreNumbered modules.now }
+    requires nets { AreNets m.now nets.now }
     requires room { rows_width (named_nets m.now) < 2 ^ 32 }
     ensures { IfOk result (IsReadShape modules.now.tree.now counts.now m.now count) }
 {
-    let nets = read_nets(alloc, m)?;
-    let places = place_nets(alloc, m, nets.order.as_slice())?;
+    let order = nets.order.as_slice();
+    let places = place_nets(alloc, m, order)?;
     let ports = read_ports(alloc, m, &places)?;
     let steps = read_steps(alloc, modules, counts, m)?;
     Ok(Shape {
-        order: nets.order,
+        order,
         places,
         ports,
         steps,
@@ -108,7 +110,7 @@ fn read_shape<'a>(
 // The shape of a module that isn't unfolded.
 fn no_shape<'a>(alloc: Global, m: &'a Module) -> Shape<'a> {
     Shape {
-        order: Vec::new(alloc),
+        order: &[],
         places: Places {
             holder: m,
             nets: Table::new(alloc),
@@ -126,35 +128,39 @@ fn shape_of<'a>(
     modules: &Modules,
     counts: &[Option<Count>],
     m: &'a Module,
+    nets: &'a Nets<'a>,
     count: Option<Count>,
 ) -> Result<Shape<'a>, NoMemory>
     requires modules { AreNumbered modules.now }
+    requires nets { AreNets m.now nets.now }
     requires room { IfSome count (λ c. rows_width (named_nets m.now) < 2 ^ 32) }
     ensures { IfOk result (λ shape. IfSome count (λ c. IsReadShape modules.now.tree.now counts.now m.now c shape)) }
 {
     match count {
         None => Ok(no_shape(alloc, m)),
         Some(count) => {
-            let shape = read_shape(alloc, modules, counts, m, count)?;
+            let shape = read_shape(alloc, modules, counts, m, nets, count)?;
             Ok(shape)
         }
     }
 }
 
-/// The shapes of the modules of a tree, by their numbers.
+/// The shapes of the modules of a tree with these nets, by their numbers.
 pub fn read_shapes<'a>(
     alloc: Global,
     modules: &Modules<'a>,
+    nets: &'a [Nets<'a>],
     counts: &[Option<Count>],
 ) -> Result<Vec<Shape<'a>>, NoMemory>
     requires modules { AreNumbered modules.now }
+    requires nets { AreNetsOfAll modules.now.tree.now.modules nets.now }
     requires size { length counts.now ≡ length modules.now.tree.now.modules }
     requires room { (n : ℕ) (m : ModuleOf) (c : CountOf) → slice_get modules.now.tree.now.modules n ≡ Some m → slice_get counts.now n ≡ Some (Some c) → rows_width (named_nets m) < 2 ^ 32 }
     ensures { IfOk result (λ shapes. AreShapes modules.now.tree.now counts.now (length modules.now.tree.now.modules) shapes.items) }
 {
     let mut shapes = Vec::new(alloc);
     for (k, m) in modules.tree.modules.as_slice().iter().enumerate() {
-        let shape = shape_of(alloc, modules, counts, m, counts[k])?;
+        let shape = shape_of(alloc, modules, counts, m, &nets[k], counts[k])?;
         shapes.push(shape)?;
     }
     Ok(shapes)

@@ -3,6 +3,7 @@ ghost use Rattle.std.specs.Prelude.{◌≡◌, ◌≤◌, length, Some, IfOk};
 ghost use Rattle.vlog_check.specs.Checked.{IsChecked};
 ghost use Rattle.vlog_check.specs.Scope.{module_number};
 ghost use Rattle.elab_scope.specs.Counting.{AreCounts, count_at};
+ghost use Rattle.elab_scope.specs.Nets.{AreNetsOfAll};
 ghost use Rattle.elab_design.specs.Limits.{HasClock};
 ghost use Rattle.elab_design.specs.Raw.{IsRawOf};
 ghost use Rattle.elab_unfold.specs.Shapes.{IsPlan, shape_size, design_of};
@@ -13,7 +14,7 @@ use crate::read_plan::read_plan;
 use crate::shape::{Plan, PortNet};
 use crate::state::State;
 use crate::whole::unfold_plan;
-use elab_scope::Counts;
+use elab_scope::{Counts, Nets};
 use flat_settle::Raw;
 use ila_base::{Items, NoMemory};
 use net_core::{NetId, Port};
@@ -74,7 +75,7 @@ fn raw_of(alloc: Global, plan: &Plan) -> Result<Raw, NoMemory>
     })
 }
 
-/// A checked design unfolded: its groups, ports and cells in flat order, with a cell for each link. It
+/// A checked design with these nets unfolded: its groups, ports and cells in flat order, with a cell for each link. It
 /// takes time linear in what comes out.
 pub fn unfold(
     alloc: Global,
@@ -82,15 +83,17 @@ pub fn unfold(
     name: &[u8],
     clock: &[u8],
     top: usize,
+    nets: &[Nets],
     counts: &Counts,
 ) -> Result<Raw, NoMemory>
     requires checked { IsChecked tree.now name.now }
     requires top { module_number tree.now name.now ≡ Some top }
+    requires nets { AreNetsOfAll tree.now.modules nets.now }
     requires counts { AreCounts tree.now top counts.now.table.items }
     requires few { IsWithin (count_at counts.now.table.items top) }
     requires clock { HasClock (record { tree = tree.now; top = name.now; clock = clock.now }) }
     ensures { IfOk result (IsRawOf (record { tree = tree.now; top = name.now; clock = clock.now })) }
 {
-    let plan = read_plan(alloc, tree, name, clock, top, counts)?;
+    let plan = read_plan(alloc, tree, name, clock, top, nets, counts)?;
     raw_of(alloc, &plan)
 }

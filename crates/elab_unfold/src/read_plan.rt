@@ -3,12 +3,13 @@ ghost use Rattle.std.specs.Prelude.{◌≡◌, ◌≤◌, Some, IfOk};
 ghost use Rattle.vlog_check.specs.Checked.{IsChecked};
 ghost use Rattle.vlog_check.specs.Scope.{module_number};
 ghost use Rattle.elab_scope.specs.Counting.{AreCounts, count_at};
+ghost use Rattle.elab_scope.specs.Nets.{AreNetsOfAll};
 ghost use Rattle.elab_unfold.specs.Shapes.{IsPlan, shape_size};
 ghost use Rattle.elab_unfold.specs.Parts.{IsWithin};
 
 use crate::plan::read_shapes;
 use crate::shape::Plan;
-use elab_scope::{Counts, read_modules};
+use elab_scope::{Counts, Nets, read_modules};
 use ila_base::NoMemory;
 use std::alloc::Global;
 use vlog_parse::Tree;
@@ -20,10 +21,12 @@ pub fn read_plan<'a>(
     name: &'a [u8],
     clock: &'a [u8],
     top: usize,
+    nets: &'a [Nets<'a>],
     counts: &Counts,
 ) -> Result<Plan<'a>, NoMemory>
     requires checked { IsChecked tree.now name.now }
     requires top { module_number tree.now name.now ≡ Some top }
+    requires nets { AreNetsOfAll tree.now.modules nets.now }
     requires counts { AreCounts tree.now top counts.now.table.items }
     requires few { IsWithin (count_at counts.now.table.items top) }
     ensures plan { IfOk result IsPlan }
@@ -34,7 +37,7 @@ pub fn read_plan<'a>(
     ensures top { IfOk result (λ plan. plan.top ≡ top) }
 {
     let modules = read_modules(alloc, tree)?;
-    let shapes = read_shapes(alloc, &modules, counts.table.as_slice())?;
+    let shapes = read_shapes(alloc, &modules, nets, counts.table.as_slice())?;
     Ok(Plan {
         tree,
         name,

@@ -29,7 +29,7 @@ pub struct PortNet<'a> {
 #[derive(Drop)]
 pub struct Shape<'a> {
     /// Its nets in order, each with its range.
-    pub order: Vec<(&'a [u8], Option<Range>)>,
+    pub order: &'a [(&'a [u8], Option<Range>)],
     pub places: Places<'a>,
     pub ports: Vec<PortNet<'a>>,
     pub steps: Vec<Step<'a>>,
