@@ -23,4 +23,4 @@ loop-node-preserved c =
     let i = c.loop-node.node-index in
     let node = get_or order i (0, 0) in
     counted_one c.args.modules.now.tree.now c.args.wanted.now order c.requires.order i node.0 node.1 (slice_get-get_or order i (0, 0) c.loop-node-test.true) c.loop-node.table.items c.loop-node.invariant
-    c.count_one.new.table.items c.in_ok-count_one.ensures
+    c.count_one.new.table.items c.count_one.ensures

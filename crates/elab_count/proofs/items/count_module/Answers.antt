@@ -8,5 +8,5 @@ pub loop-item-preserved : goal.loop-item-preserved
 loop-item-preserved c =
     let m = c.args.m.now in
     let f = item_count c.args.modules.now.tree.now c.args.counts.now m in
-    c.with-count.ensures _ (f c.item-item.result) c.loop-item.invariant (c.count_item.ensures m c.in_ok-nets.ensures)
+    c.with-count.ensures _ (f c.item-item.result) c.loop-item.invariant (c.count_item.ensures m c.requires.nets)
     ∙ ap (λ a. capped a) (one_more_behind f c.as_slice-item-items.result.now m.items c.loop-item.item-index c.item-item.result c.as_slice-item-items.ensures c.loop-item-test.true c.item-item.is (all_together (map net_count (named_nets m))))
