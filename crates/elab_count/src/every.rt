@@ -120,12 +120,7 @@ fn count_wanted(
 }
 
 /// What the top of a checked tree and the modules below it count, given the nets of all modules.
-pub fn count_all(
-    alloc: Global,
-    tree: &Tree,
-    nets: &[Nets],
-    top: usize,
-) -> Result<Counts, NoMemory>
+pub fn count_all(alloc: Global, tree: &Tree, nets: &[Nets], top: usize) -> Result<Counts, NoMemory>
     requires read { IsReadTree tree.now }
     requires nets { AreNetsOfAll tree.now.modules nets.now }
     requires checked { (name : List ℕ) × IsChecked tree.now name × (module_number tree.now name ≡ Some top) }

@@ -1,6 +1,5 @@
 use Rattle.std.proofs.Common.{◌+◌, ◌++◌, ◌∷◌, [], map, drop, ap, sym, subst, ◌∙◌, arith}
 use Rattle.std.proofs.lemmas.Option.{same_Some}
-use Rattle.elab_scope.specs.Nets.{rows_seen}
 use Rattle.elab_unfold.specs.Places.{rows_width, groups_from}
 use Rattle.elab_unfold.specs.Shapes.{item_of, own_item, step_size, design_of}
 use Rattle.elab_unfold.specs.Adding.{Taken, Adds}
@@ -17,7 +16,7 @@ loop-step-init t c =
     let plan = c.args.plan.now in
     let shape = c.shape_at-shape.result.now in
     let kept = c.shape_at-shape.ensures.right in
-    let rows = ap rows_seen c.as_slice.ensures.value ∙ kept.right.order in
+    let rows = kept.right.order in
     let nets = c.in_ok-push_groups.ensures.nets ∙ ap (λ r. c.args.state.now.nets + rows_width r) rows in
     record {
       prefix = c.in_ok-push_groups.ensures.prefix;
