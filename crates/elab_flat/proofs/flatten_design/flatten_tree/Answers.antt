@@ -14,6 +14,13 @@ use Rattle.elab_flat.proofs.FaultLaws.{IsKnown, has_clock, has_limits, is_within
 use Rattle.elab_flat.proofs.flatten_design.flatten_tree.Goals as goal
 use Rattle.elab_flat.proofs.flatten_design.flatten_tree.Goals.{After-fault_before, In-None}
 
+pub fault_before-requires : goal.fault_before-requires
+fault_before-requires c =
+    let low = c.in_ok-top.ensures.low in
+    c.in_ok-nets.ensures.each c.in_ok-top.top c.index-as_slice-top.result c.index-nets-top.result
+    (item_at c.args.tree.now.modules c.as_slice.result.now c.in_ok-top.top _ c.as_slice.ensures (omega (arith, low, ap length c.as_slice.ensures)) c.index-as_slice-top.is)
+    (item_at c.in_ok-nets.nets.items c.as_slice-nets.result.now c.in_ok-top.top _ c.as_slice-nets.ensures.value (omega (arith, low, c.in_ok-nets.ensures.size, ap length c.as_slice-nets.ensures.value)) c.index-nets-top.is)
+
 abbrev design : After-fault_before → Design
 design c = record { tree = c.args.tree.now; top = c.args.name.now; clock = c.args.clock.now }
 
