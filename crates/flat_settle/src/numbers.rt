@@ -9,12 +9,13 @@ use std::alloc::Global;
 use std::marker::Model;
 
 /// Names by number, from 0 in the order in which they are met. Clauses see the list of the names.
+/// A name is borrowed, and no bytes are copied.
 #[derive(Drop)]
-pub struct Numbers {
-    names: IndexSet<Vec<u8>>,
+pub struct Numbers<'a> {
+    names: IndexSet<&'a [u8]>,
 }
 
-impl Model for Numbers {
+impl<'a> Model for Numbers<'a> {
     ghost use Rattle.std.specs.Prelude.{ℕ, List, map};
     ghost use Rattle.std.specs.Coded.{coded_list, coded_ℕ};
 
@@ -22,12 +23,12 @@ impl Model for Numbers {
 
     ghost coded = { coded_list (coded_list coded_ℕ) };
 
-    ghost view = { λ numbers. map (λ name. name.items) numbers.names.keys };
+    ghost view = { λ numbers. map (λ name. name.now) numbers.names.keys };
 }
 
-impl Numbers {
+impl<'a> Numbers<'a> {
     /// No names. It takes no memory.
-    pub fn new(alloc: Global) -> Numbers
+    pub fn new(alloc: Global) -> Numbers<'a>
         ensures { result ≡ [] }
     {
         Numbers {
@@ -36,14 +37,13 @@ impl Numbers {
     }
 
     /// The number of a name, which is a new one where it wasn't met yet.
-    pub fn number(&mut self, alloc: Global, name: &[u8]) -> Result<usize, NoMemory>
+    pub fn number(&mut self, name: &'a [u8]) -> Result<usize, NoMemory>
         ensures at { IfOk result (λ number. slice_get self.new number ≡ Some name.now) }
         ensures grows { OnOk result (Grows self.old self.new) }
         ensures few { OnOk result (length self.new ≤ length self.old + 1) }
         ensures differ { OnOk result (AllDiffer self.new) }
     {
-        let key = Vec::from_slice(alloc, name)?;
-        let (number, _added) = self.names.insert_full(key)?;
+        let (number, _added) = self.names.insert_full(name)?;
         Ok(number)
     }
 }

@@ -16,23 +16,23 @@ use net_core::Group;
 use std::alloc::Global;
 
 // Meets the bit of a scalar, whose name may have the form of a vector's bit.
-fn see_scalar(alloc: Global, seen: &mut Seen, name: &[u8]) -> Result<bool, NoMemory>
+fn see_scalar<'a>(seen: &mut Seen<'a>, name: &'a [u8]) -> Result<bool, NoMemory>
     requires few { length seen.old.fronts < 2 ^ 30 }
     requires spelled { IsIdentifier name.now }
     ensures { IfOk result (λ there. (names : List Named) → AreSeen seen.old.fronts seen.old.keys.keys names → Sees seen.new.fronts seen.new.keys.keys names (BitName name.now) there) }
 {
     match split(name) {
-        Some((front, index)) => see(alloc, seen, front, index as u64 + 2),
-        None => see(alloc, seen, name, 1),
+        Some((front, index)) => see(seen, front, index as u64 + 2),
+        None => see(seen, name, 1),
     }
 }
 
 // Meets the bits of a vector, and answers the name of the first that was met before. The vector's name
 // is numbered once.
-fn see_vector(
+fn see_vector<'a>(
     alloc: Global,
-    seen: &mut Seen,
-    front: &[u8],
+    seen: &mut Seen<'a>,
+    front: &'a [u8],
     left: u32,
     right: u32,
     count: usize,
@@ -43,7 +43,7 @@ fn see_vector(
     ensures { IfOk result (λ found. (names : List Named) → AreSeen seen.old.fronts seen.old.keys.keys names → MatchOption found (AreSeen seen.new.fronts seen.new.keys.keys (names ++ map BitName (map (indexed_name front.now) (range_indices left right)))) (λ name. RepeatsAfter names (map BitName (map (indexed_name front.now) (range_indices left right))) name)) }
 {
     let first = index_at(left, right, 0);
-    let (there, number) = see_first(alloc, seen, front, first as u64 + 2)?;
+    let (there, number) = see_first(seen, front, first as u64 + 2)?;
     if there {
         return Ok(Some(indexed(alloc, front, first)?));
     }
@@ -57,7 +57,11 @@ fn see_vector(
 }
 
 // Meets the bits of a group.
-fn see_bits(alloc: Global, seen: &mut Seen, group: &Group) -> Result<Option<Name>, NoMemory>
+fn see_bits<'a>(
+    alloc: Global,
+    seen: &mut Seen<'a>,
+    group: &'a Group,
+) -> Result<Option<Name>, NoMemory>
     requires range { HasRange group.now }
     requires spelled { IsIdentifier group.now.name }
     requires few { length seen.old.fronts + length group.now.bits < 2 ^ 30 }
@@ -73,7 +77,7 @@ fn see_bits(alloc: Global, seen: &mut Seen, group: &Group) -> Result<Option<Name
             group.bits.len(),
         ),
         None => {
-            if see_scalar(alloc, seen, group.name.bytes())? {
+            if see_scalar(seen, group.name.bytes())? {
                 Ok(Some(group.name.copied(alloc)?))
             } else {
                 Ok(None)
@@ -83,20 +87,28 @@ fn see_bits(alloc: Global, seen: &mut Seen, group: &Group) -> Result<Option<Name
 }
 
 // Meets a group's identifier and then its bits.
-fn see_group(alloc: Global, seen: &mut Seen, group: &Group) -> Result<Option<Name>, NoMemory>
+fn see_group<'a>(
+    alloc: Global,
+    seen: &mut Seen<'a>,
+    group: &'a Group,
+) -> Result<Option<Name>, NoMemory>
     requires range { HasRange group.now }
     requires spelled { IsIdentifier group.now.name }
     requires few { length seen.old.fronts + 1 + length group.now.bits < 2 ^ 30 }
     ensures { IfOk result (λ found. (names : List Named) → AreSeen seen.old.fronts seen.old.keys.keys names → MatchOption found (AreSeen seen.new.fronts seen.new.keys.keys (names ++ group_names group.now)) (λ name. RepeatsAfter names (group_names group.now) name)) }
 {
-    if see(alloc, seen, group.name.bytes(), 0)? {
+    if see(seen, group.name.bytes(), 0)? {
         return Ok(Some(group.name.copied(alloc)?));
     }
     see_bits(alloc, seen, group)
 }
 
 // Meets the groups, from nothing on.
-fn see_groups(alloc: Global, seen: &mut Seen, groups: &[Group]) -> Result<Option<Name>, NoMemory>
+fn see_groups<'a>(
+    alloc: Global,
+    seen: &mut Seen<'a>,
+    groups: &'a [Group],
+) -> Result<Option<Name>, NoMemory>
     requires start { AreSeen seen.old.fronts seen.old.keys.keys [] }
     requires ranges { Each HasRange groups.now }
     requires spelled { Each (λ (group : GroupOf). IsIdentifier group.name) groups.now }
@@ -113,14 +125,18 @@ fn see_groups(alloc: Global, seen: &mut Seen, groups: &[Group]) -> Result<Option
 }
 
 // Meets a cell's identifier, if it has one.
-fn see_cell(alloc: Global, seen: &mut Seen, cell: &RawCell) -> Result<Option<Name>, NoMemory>
+fn see_cell<'a>(
+    alloc: Global,
+    seen: &mut Seen<'a>,
+    cell: &'a RawCell,
+) -> Result<Option<Name>, NoMemory>
     requires { length seen.old.fronts < 2 ^ 30 }
     ensures few { OnOk result (length seen.new.fronts ≤ length seen.old.fronts + 1) }
     ensures sees { IfOk result (λ found. (names : List Named) → AreSeen seen.old.fronts seen.old.keys.keys names → MatchOption found (AreSeen seen.new.fronts seen.new.keys.keys (names ++ cell_names (cell.now ∷ []))) (λ name. (cell.now.name ≡ Some name) × IsAmong names (Identifier name))) }
 {
     match &cell.name {
         Some(name) => {
-            if see(alloc, seen, name.bytes(), 0)? {
+            if see(seen, name.bytes(), 0)? {
                 Ok(Some(name.copied(alloc)?))
             } else {
                 Ok(None)
@@ -131,7 +147,11 @@ fn see_cell(alloc: Global, seen: &mut Seen, cell: &RawCell) -> Result<Option<Nam
 }
 
 // Meets the cells.
-fn see_cells(alloc: Global, seen: &mut Seen, cells: &[RawCell]) -> Result<Option<Name>, NoMemory>
+fn see_cells<'a>(
+    alloc: Global,
+    seen: &mut Seen<'a>,
+    cells: &'a [RawCell],
+) -> Result<Option<Name>, NoMemory>
     requires { length seen.old.fronts + length cells.now < 2 ^ 30 }
     ensures { IfOk result (λ found. (names : List Named) → AreSeen seen.old.fronts seen.old.keys.keys names → MatchOption found (AreSeen seen.new.fronts seen.new.keys.keys (names ++ cell_names cells.now)) (λ name. RepeatsAfter names (cell_names cells.now) name)) }
 {

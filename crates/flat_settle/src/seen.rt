@@ -9,13 +9,12 @@ use crate::numbers::Numbers;
 use ila_base::NoMemory;
 use indexmap::IndexSet;
 use net_core::split_bit_name;
-use std::alloc::Global;
 
 /// Names that were met: the fronts by number, and for each name a key of its front's number and a code,
 /// which is 0 for an identifier, 1 for a scalar's bit, and `i + 2` for bit `i` of a vector.
 #[derive(Drop)]
-pub struct Seen {
-    pub fronts: Numbers,
+pub struct Seen<'a> {
+    pub fronts: Numbers<'a>,
     pub keys: IndexSet<u64>,
 }
 
@@ -28,10 +27,9 @@ fn add_key(keys: &mut IndexSet<u64>, key: u64) -> Result<bool, NoMemory>
 }
 
 /// Meets a name, and answers whether it was met before, with the number of its front.
-pub fn see_first(
-    alloc: Global,
-    seen: &mut Seen,
-    front: &[u8],
+pub fn see_first<'a>(
+    seen: &mut Seen<'a>,
+    front: &'a [u8],
     code: u64,
 ) -> Result<(bool, usize), NoMemory>
     requires few { length seen.old.fronts < 2 ^ 30 }
@@ -40,7 +38,7 @@ pub fn see_first(
     ensures at { IfOk result (λ met. slice_get seen.new.fronts met.1 ≡ Some front.now) }
     ensures sees { IfOk result (λ met. (names : List Named) → AreSeen seen.old.fronts seen.old.keys.keys names → Sees seen.new.fronts seen.new.keys.keys names (named front.now code) met.0) }
 {
-    let number = seen.fronts.number(alloc, front)?;
+    let number = seen.fronts.number(front)?;
     let there = add_key(&mut seen.keys, number as u64 * 8_589_934_592 + code)?;
     Ok((there, number))
 }
@@ -58,13 +56,13 @@ pub fn see_next(seen: &mut Seen, number: usize, front: &[u8], code: u64) -> Resu
 }
 
 /// Meets a name, and answers whether it was met before.
-pub fn see(alloc: Global, seen: &mut Seen, front: &[u8], code: u64) -> Result<bool, NoMemory>
+pub fn see<'a>(seen: &mut Seen<'a>, front: &'a [u8], code: u64) -> Result<bool, NoMemory>
     requires few { length seen.old.fronts < 2 ^ 30 }
     requires coded { IsCoded front.now code }
     ensures few { OnOk result (length seen.new.fronts ≤ length seen.old.fronts + 1) }
     ensures sees { IfOk result (λ there. (names : List Named) → AreSeen seen.old.fronts seen.old.keys.keys names → Sees seen.new.fronts seen.new.keys.keys names (named front.now code) there) }
 {
-    let (there, _number) = see_first(alloc, seen, front, code)?;
+    let (there, _number) = see_first(seen, front, code)?;
     Ok(there)
 }
 
