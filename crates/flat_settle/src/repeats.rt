@@ -1,5 +1,5 @@
 //! The first name in flat order that an earlier one equals.
-ghost use Rattle.std.specs.Prelude.{◌≡◌, ℕ, ◌+◌, ◌-◌, ◌^◌, ◌<◌, ◌≤◌, List, [], ◌∷◌, ◌++◌, map, flat_map, IfOk, OnOk, MatchOption, MatchBool, length, Some};
+ghost use Rattle.std.specs.Prelude.{◌≡◌, ℕ, ◌+◌, ◌-◌, ◌^◌, ◌<◌, ◌≤◌, List, [], ◌∷◌, ◌++◌, map, flat_map, IfOk, OnOk, MatchOption, MatchBool, length, Some, slice_get};
 ghost use Rattle.net_core.specs.WellFormed.{Each, HasRange, IsIdentifier, bit_names, range_indices, indexed_name};
 ghost use Rattle.net_core.specs.declared.parts.Group.{Group as GroupOf};
 ghost use Rattle.flat_settle.specs.Raw.{IsUnfolded};
@@ -16,38 +16,36 @@ use net_core::Group;
 use std::alloc::Global;
 
 // Meets the bit of a scalar, whose name may have the form of a vector's bit.
-fn see_scalar<'a>(seen: &mut Seen<'a>, name: &'a [u8]) -> Result<bool, NoMemory>
+fn see_scalar<'a>(seen: &mut Seen<'a>, number: usize, name: &'a [u8]) -> Result<bool, NoMemory>
+    requires at { slice_get seen.old.fronts number ≡ Some name.now }
     requires few { length seen.old.fronts < 2 ^ 30 }
     requires spelled { IsIdentifier name.now }
     ensures { IfOk result (λ there. (names : List Named) → AreSeen seen.old.fronts seen.old.keys.keys names → Sees seen.new.fronts seen.new.keys.keys names (BitName name.now) there) }
 {
     match split(name) {
         Some((front, index)) => see(seen, front, index as u64 + 2),
-        None => see(seen, name, 1),
+        None => see_next(seen, number, name, 1),
     }
 }
 
-// Meets the bits of a vector, and answers the name of the first that was met before. The vector's name
-// is numbered once.
-fn see_vector<'a>(
+// Meets the bits of a vector, whose name has this number, and answers the name of the first that was
+// met before.
+fn see_vector(
     alloc: Global,
-    seen: &mut Seen<'a>,
-    front: &'a [u8],
+    seen: &mut Seen,
+    number: usize,
+    front: &[u8],
     left: u32,
     right: u32,
     count: usize,
 ) -> Result<Option<Name>, NoMemory>
+    requires at { slice_get seen.old.fronts number ≡ Some front.now }
+    requires few { length seen.old.fronts < 2 ^ 30 }
     requires small { (left ≤ 1048575) × (right ≤ 1048575) }
     requires count { count ≡ (left - right) + (right - left) + 1 }
-    requires few { length seen.old.fronts + count < 2 ^ 30 }
     ensures { IfOk result (λ found. (names : List Named) → AreSeen seen.old.fronts seen.old.keys.keys names → MatchOption found (AreSeen seen.new.fronts seen.new.keys.keys (names ++ map BitName (map (indexed_name front.now) (range_indices left right)))) (λ name. RepeatsAfter names (map BitName (map (indexed_name front.now) (range_indices left right))) name)) }
 {
-    let first = index_at(left, right, 0);
-    let (there, number) = see_first(seen, front, first as u64 + 2)?;
-    if there {
-        return Ok(Some(indexed(alloc, front, first)?));
-    }
-    for place in 1..count {
+    for place in 0..count {
         let index = index_at(left, right, place);
         if see_next(seen, number, front, index as u64 + 2)? {
             return Ok(Some(indexed(alloc, front, index)?));
@@ -56,28 +54,31 @@ fn see_vector<'a>(
     Ok(None)
 }
 
-// Meets the bits of a group.
+// Meets the bits of a group, whose name has this number.
 fn see_bits<'a>(
     alloc: Global,
     seen: &mut Seen<'a>,
+    number: usize,
     group: &'a Group,
 ) -> Result<Option<Name>, NoMemory>
+    requires at { slice_get seen.old.fronts number ≡ Some group.now.name }
+    requires few { length seen.old.fronts < 2 ^ 30 }
     requires range { HasRange group.now }
     requires spelled { IsIdentifier group.now.name }
-    requires few { length seen.old.fronts + length group.now.bits < 2 ^ 30 }
     ensures { IfOk result (λ found. (names : List Named) → AreSeen seen.old.fronts seen.old.keys.keys names → MatchOption found (AreSeen seen.new.fronts seen.new.keys.keys (names ++ map BitName (bit_names group.now))) (λ name. RepeatsAfter names (map BitName (bit_names group.now)) name)) }
 {
     match group.range {
         Some((left, right)) => see_vector(
             alloc,
             seen,
+            number,
             group.name.bytes(),
             left,
             right,
             group.bits.len(),
         ),
         None => {
-            if see_scalar(seen, group.name.bytes())? {
+            if see_scalar(seen, number, group.name.bytes())? {
                 Ok(Some(group.name.copied(alloc)?))
             } else {
                 Ok(None)
@@ -86,7 +87,7 @@ fn see_bits<'a>(
     }
 }
 
-// Meets a group's identifier and then its bits.
+// Meets a group's identifier and then its bits. The group's name is numbered once.
 fn see_group<'a>(
     alloc: Global,
     seen: &mut Seen<'a>,
@@ -94,13 +95,14 @@ fn see_group<'a>(
 ) -> Result<Option<Name>, NoMemory>
     requires range { HasRange group.now }
     requires spelled { IsIdentifier group.now.name }
-    requires few { length seen.old.fronts + 1 + length group.now.bits < 2 ^ 30 }
+    requires few { length seen.old.fronts + 1 < 2 ^ 30 }
     ensures { IfOk result (λ found. (names : List Named) → AreSeen seen.old.fronts seen.old.keys.keys names → MatchOption found (AreSeen seen.new.fronts seen.new.keys.keys (names ++ group_names group.now)) (λ name. RepeatsAfter names (group_names group.now) name)) }
 {
-    if see(seen, group.name.bytes(), 0)? {
+    let (there, number) = see_first(seen, group.name.bytes(), 0)?;
+    if there {
         return Ok(Some(group.name.copied(alloc)?));
     }
-    see_bits(alloc, seen, group)
+    see_bits(alloc, seen, number, group)
 }
 
 // Meets the groups, from nothing on.

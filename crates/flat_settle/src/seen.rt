@@ -46,7 +46,7 @@ pub fn see_first<'a>(
 /// Meets a name whose front has this number, and answers whether it was met before.
 pub fn see_next(seen: &mut Seen, number: usize, front: &[u8], code: u64) -> Result<bool, NoMemory>
     requires at { slice_get seen.old.fronts number ≡ Some front.now }
-    requires few { number < 2 ^ 30 }
+    requires few { length seen.old.fronts < 2 ^ 30 }
     requires coded { IsCoded front.now code }
     ensures same { seen.new.fronts ≡ seen.old.fronts }
     ensures sees { IfOk result (λ there. (names : List Named) → AreSeen seen.old.fronts seen.old.keys.keys names → Sees seen.new.fronts seen.new.keys.keys names (named front.now code) there) }

@@ -1,12 +1,12 @@
-use Rattle.std.proofs.Common.{◌≡◌, ℕ, ◌+◌, ◌++◌, ◌∷◌, [], List, map, take, drop, length, slice_get, Some, append_assoc, ap, sym, ◌∙◌, subst, arith, take_all}
+use Rattle.std.proofs.Common.{◌≡◌, ℕ, ◌+◌, ◌<◌, ◌^◌, ◌++◌, ◌∷◌, [], List, map, take, length, slice_get, Some, append_assoc, append-nil, ap, sym, ◌∙◌, subst, arith, take_all}
 use Rattle.std.specs.Option.{option_map}
 use Rattle.std.proofs.lemmas.List.{length-map}
-use Rattle.std.proofs.lemmas.Option.{slice_get-map, slice_get_within}
+use Rattle.std.proofs.lemmas.Option.{slice_get-map}
 use Rattle.net_core.specs.WellFormed.{range_indices, indexed_name}
 use Rattle.flat_settle.specs.Refusals.{Named, BitName}
 use Rattle.flat_settle.specs.Naming.{named, AreSeen, IsAmong}
 use Rattle.flat_settle.proofs.NameLemmas.{range_width}
-use Rattle.flat_settle.proofs.RepeatLemmas.{sees_true, sees_false, named_bit, one_more_taken, split_item, repeats_first}
+use Rattle.flat_settle.proofs.RepeatLemmas.{sees_true, sees_false, named_bit, one_more_taken}
 use Rattle.flat_settle.proofs.repeats.see_vector.Goals as goal
 
 at_place : (front : List ℕ) (left right place index : ℕ) → slice_get (range_indices left right) place ≡ Some index → slice_get (map BitName (map (indexed_name front) (range_indices left right))) place ≡ Some (BitName (indexed_name front index))
@@ -14,28 +14,13 @@ at_place front left right place index at =
     slice_get-map BitName (map (indexed_name front) (range_indices left right)) place
     ∙ ap (option_map BitName) (slice_get-map (indexed_name front) (range_indices left right) place ∙ ap (option_map (indexed_name front)) at)
 
-pub returns-then-there : goal.returns-then-there
-returns-then-there c = λ names seen. (
-    let more = map BitName (map (indexed_name c.args.front.now) (range_indices c.args.left c.args.right)) in
-    let one = BitName (indexed_name c.args.front.now c.index_at-first.result) in
-    let among = sees_true c.see_first.new.seen.fronts c.see_first.new.seen.keys.keys names (named c.args.front.now (c.index_at-first.result + 2)) c.in_ok-there.there c.if-there.true (c.in_ok-there.ensures.sees names seen) in
-    repeats_first names more one c.in_ok-indexed.field-0 (drop 1 more) (split_item more 0 one (at_place c.args.front.now c.args.left c.args.right 0 c.index_at-first.result c.index_at-first.ensures)) (sym c.in_ok-indexed.ensures)
-    (subst (λ (one : Named). IsAmong names one) (named_bit c.args.front.now c.index_at-first.result) among) seen.differ)
-
 pub loop-place-init : goal.loop-place-init
-loop-place-init c =
-    let number = slice_get_within c.see_first.new.seen.fronts c.in_ok-there.number c.args.front.now c.in_ok-there.ensures.at in (
-      c.in_ok-there.ensures.at,
-      omega (arith, number, c.in_ok-there.ensures.few, c.requires.few, c.requires.count),
-      omega (arith, c.requires.count),
-      λ names seen. (
-          let more = map BitName (map (indexed_name c.args.front.now) (range_indices c.args.left c.args.right)) in
-          let one = BitName (indexed_name c.args.front.now c.index_at-first.result) in
-          let met = sees_false c.see_first.new.seen.fronts c.see_first.new.seen.keys.keys names (named c.args.front.now (c.index_at-first.result + 2)) c.in_ok-there.there c.if-there.false (c.in_ok-there.ensures.sees names seen) in
-          subst (λ (zs : List Named). AreSeen c.see_first.new.seen.fronts c.see_first.new.seen.keys.keys (names ++ zs))
-          (ap (λ (one : Named). one ∷ []) (named_bit c.args.front.now c.index_at-first.result)
-          ∙ sym (one_more_taken more 0 one (at_place c.args.front.now c.args.left c.args.right 0 c.index_at-first.result c.index_at-first.ensures))) met),
-    )
+loop-place-init c = (
+  c.requires.at,
+  c.requires.few,
+  omega arith,
+  λ names seen. subst (λ (zs : List Named). AreSeen c.args.seen.now.fronts c.args.seen.now.keys.keys zs) (sym (append-nil names)) seen,
+)
 
 pub returns-then-branch : goal.returns-then-branch
 returns-then-branch c = λ names seen. (
@@ -47,15 +32,15 @@ returns-then-branch c = λ names seen. (
       place = c.loop-place.place;
       one = BitName (indexed_name c.args.front.now c.index_at-index.result);
       at = at_place c.args.front.now c.args.left c.args.right c.loop-place.place c.index_at-index.result c.index_at-index.ensures;
-      called = sym c.in_ok-indexed-2.ensures;
+      called = sym c.in_ok-indexed.ensures;
       earlier = subst (λ (one : Named). IsAmong (names ++ take c.loop-place.place more) one) (named_bit c.args.front.now c.index_at-index.result) among;
       differ = before.differ;
     })
 
 pub loop-place-preserved : goal.loop-place-preserved
 loop-place-preserved c = (
-  ap (λ (fronts : List (List ℕ)). slice_get fronts c.in_ok-there.number) c.see_next.ensures.same ∙ c.loop-place.invariant.0,
-  c.loop-place.invariant.1,
+  ap (λ (fronts : List (List ℕ)). slice_get fronts c.args.number) c.see_next.ensures.same ∙ c.loop-place.invariant.0,
+  subst (λ (fronts : List (List ℕ)). length fronts < 2 ^ 30) (sym c.see_next.ensures.same) c.loop-place.invariant.1,
   omega (arith, c.loop-place-test.true),
   λ names seen. (
       let more = map BitName (map (indexed_name c.args.front.now) (range_indices c.args.left c.args.right)) in
