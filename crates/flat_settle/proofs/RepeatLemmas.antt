@@ -7,13 +7,14 @@ use Rattle.std.proofs.lemmas.List.Sums.{sum_by-cons}
 use Rattle.std.proofs.lemmas.Option.{same_Some, slice_get_within, slice_get-map}
 use Rattle.net_core.specs.declared.parts.Group.{Group}
 use Rattle.net_core.specs.Netlist.{net_count}
-use Rattle.net_core.specs.WellFormed.{AllDiffer, Each, HasRange, IsIdentifier, bit_names, indexed_name}
+use Rattle.net_core.specs.WellFormed.{AllDiffer, Each, HasRange, IsIdentifier, bit_names}
 use Rattle.net_core.proofs.ListLemmas.{slice_get_left, slice_get_right}
 use Rattle.flat_settle.specs.declared.raw.RawCell.{RawCell}
 use Rattle.flat_settle.specs.declared.raw.Raw.{Raw}
 use Rattle.flat_settle.specs.Raw.{IsUnfolded, raw_identifiers}
 use Rattle.flat_settle.specs.Refusals.{Named, Identifier, BitName, word, group_names, cell_names, IsFirstRepeat, HasRepeat}
-use Rattle.flat_settle.specs.Naming.{named, AreSeen, IsAmong, Sees, RepeatsAfter}
+use Rattle.flat_settle.specs.declared.seen.Seen.{Seen}
+use Rattle.flat_settle.specs.Naming.{AreSeen, IsAmong, Sees, RepeatsAfter}
 use Rattle.flat_settle.proofs.DistinctLemmas.{picked_append}
 
 -- Lists
@@ -53,14 +54,11 @@ flat_map_split f xs i x at = ap (flat_map f) (split_item xs i x at) ∙ flat_map
 
 -- Meeting one more
 
-pub sees_true : (fronts : List (List ℕ)) (keys : List ℕ) (names : List Named) (one : Named) (there : Bool) → there ≡ true → Sees fronts keys names one there → IsAmong names one
-sees_true fronts keys names one there is sees = subst (λ (b : Bool). Sees fronts keys names one b) is sees
+pub sees_true : (seen : Seen) (names : List Named) (one : Named) (there : Bool) → there ≡ true → Sees seen names one there → IsAmong names one
+sees_true seen names one there is sees = subst (λ (b : Bool). Sees seen names one b) is sees
 
-pub sees_false : (fronts : List (List ℕ)) (keys : List ℕ) (names : List Named) (one : Named) (there : Bool) → there ≡ false → Sees fronts keys names one there → AreSeen fronts keys (names ++ one ∷ [])
-sees_false fronts keys names one there is sees = subst (λ (b : Bool). Sees fronts keys names one b) is sees
-
-pub named_bit : (front : List ℕ) (index : ℕ) → named front (index + 2) ≡ BitName (indexed_name front index)
-named_bit front index = let e : index + 2 ≡ suc (suc index) = omega arith in ap (named front) e
+pub sees_false : (seen : Seen) (names : List Named) (one : Named) (there : Bool) → there ≡ false → Sees seen names one there → AreSeen seen (names ++ one ∷ [])
+sees_false seen names one there is sees = subst (λ (b : Bool). Sees seen names one b) is sees
 
 pub at_some : {X : Type 0} (o : Option X) (x : X) (P : Type 0) (Q : X → Type 0) → o ≡ Some x → MatchOption o P Q → Q x
 at_some {X} o x P Q is own = subst (λ (r : Option X). MatchOption r P Q) is own

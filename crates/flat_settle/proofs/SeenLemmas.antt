@@ -1,5 +1,5 @@
--- Keys tell names in one way.
-use Rattle.std.proofs.Common.{◌≡◌, ℕ, zero, suc, ◌+◌, ◌*◌, ◌^◌, ◌<◌, ◌≤◌, Bool, true, false, not, ◌||◌, eqb, List, [], ◌∷◌, ◌++◌, length, slice_get, Some, MatchBool, decimal, append_assoc, refl, ap, sym, ◌∙◌, subst, arith, inl, inr, ◌⊎◌, true≢false, if◌then◌else◌, get_or}
+-- Each name is told in one way: by a front and a form.
+use Rattle.std.proofs.Common.{◌≡◌, ℕ, zero, suc, ◌+◌, ◌*◌, ◌^◌, ◌<◌, ◌≤◌, Bool, true, false, not, ◌||◌, eqb, List, [], ◌∷◌, ◌++◌, length, slice_get, Some, MatchBool, decimal, append_assoc, refl, ap, sym, ◌∙◌, subst, arith, inl, inr, ◌⊎◌, ◌↔◌, Result, Ok, Err, IfOk, OnOk, true≢false, if◌then◌else◌, get_or}
 use Rattle.std.specs.List.{list_any}
 use Rattle.std.specs.Str.{IsAscii}
 use Rattle.std.specs.Str.Parse.{digits_value}
@@ -11,9 +11,11 @@ use Rattle.std.proofs.lemmas.Option.{same_Some, slice_get_within, slice_get-get_
 use Rattle.net_core.specs.Netlist.{IsIn}
 use Rattle.net_core.specs.WellFormed.{AllDiffer, IsIdentifier, indexed_name}
 use Rattle.net_core.proofs.BitNameLemmas.{same_last, lacks_bracket}
-use Rattle.net_core.proofs.ListLemmas.{slice_get_append}
+use Rattle.net_core.proofs.ListLemmas.{slice_get_append, slice_get_left, slice_get_right}
 use Rattle.flat_settle.specs.Refusals.{Named, Identifier, BitName, word}
-use Rattle.flat_settle.specs.Naming.{named, IsCoded, IsKeyOf, AreSeen, IsAmong, Sees, Grows}
+use Rattle.flat_settle.specs.declared.seen.Seen.{Seen}
+use Rattle.flat_settle.specs.Tables.{is_marked}
+use Rattle.flat_settle.specs.Naming.{Form, AsIdentifier, AsScalar, AsBit, named, IsWhole, IsFormOf, IsMet, AreSeen, IsAmong, Sees, Grows}
 
 pub identifier_ascii : (name : List ℕ) → IsIdentifier name → IsAscii name
 identifier_ascii name spelled i = elim (cases_lt i (length name)) [
@@ -69,36 +71,17 @@ abbrev is_identifier : Named → Bool
 is_identifier (Identifier name) = true
 is_identifier (BitName name) = false
 
--- what is told tells the front and the code
-one_code : (a b : List ℕ) (i j : ℕ) → IsCoded a i → IsCoded b j → named a i ≡ named b j → (a ≡ b) × (i ≡ j)
-one_code a b zero zero own other is = (ap word is, refl)
-one_code a b zero (suc zero) own other is = absurd (true≢false (ap is_identifier is))
-one_code a b zero (suc (suc j)) own other is = absurd (true≢false (ap is_identifier is))
-one_code a b (suc zero) zero own other is = absurd (true≢false (sym (ap is_identifier is)))
-one_code a b (suc zero) (suc zero) own other is = (ap word is, refl)
-one_code a b (suc zero) (suc (suc j)) own other is = absurd (own.whole refl b j (omega (arith, other.small)) (ap word is))
-one_code a b (suc (suc i)) zero own other is = absurd (true≢false (sym (ap is_identifier is)))
-one_code a b (suc (suc i)) (suc zero) own other is = absurd (other.whole refl a i (omega (arith, own.small)) (sym (ap word is)))
-one_code a b (suc (suc i)) (suc (suc j)) own other is =
-    let parts = same_form a b i j (omega (arith, own.small)) (omega (arith, other.small)) (ap word is) in
-    (parts.0, ap (λ (k : ℕ). suc (suc k)) parts.1)
-
-module _ (fronts : List (List ℕ)) (differ : AllDiffer fronts) where
-  same_key : (k l : ℕ) (a b : Named) → IsKeyOf fronts k a → IsKeyOf fronts l b → a ≡ b → k ≡ l
-  same_key k l a b own other is =
-      let parts = one_code own.front other.front own.code other.code own.coded other.coded (own.tells ∙ is ∙ sym other.tells) in
-      let number : own.number ≡ other.number = differ own.number other.number other.front (own.at ∙ ap (λ (x : List ℕ). Some x) parts.0) other.at in
-      omega (arith, own.is, other.is, parts.1, number)
-
-  same_name : (k l : ℕ) (a b : Named) → IsKeyOf fronts k a → IsKeyOf fronts l b → k ≡ l → a ≡ b
-  same_name k l a b own other is =
-      let number : own.number ≡ other.number = omega (arith, own.is, other.is, own.coded.small, other.coded.small, is) in
-      let code : own.code ≡ other.code = omega (arith, own.is, other.is, own.coded.small, other.coded.small, is) in
-      let front : own.front ≡ other.front = same_Some _ _ (sym own.at ∙ ap (slice_get fronts) number ∙ other.at) in
-      sym own.tells ∙ ap (λ (x : List ℕ). named x own.code) front ∙ ap (named other.front) code ∙ other.tells
-
-grown : (old new : List (List ℕ)) → Grows old new → (key : ℕ) (one : Named) → IsKeyOf old key one → IsKeyOf new key one
-grown old new grows key one own = record { number = own.number; front = own.front; code = own.code; at = grows own.number own.front own.at; is = own.is; coded = own.coded; tells = own.tells }
+-- what is told tells the front and the form
+one_form : (a b : List ℕ) (i j : Form) → IsFormOf a i → IsFormOf b j → named a i ≡ named b j → (a ≡ b) × (i ≡ j)
+one_form a b AsIdentifier AsIdentifier own other is = (ap word is, refl)
+one_form a b AsIdentifier AsScalar own other is = absurd (true≢false (ap is_identifier is))
+one_form a b AsIdentifier (AsBit j) own other is = absurd (true≢false (ap is_identifier is))
+one_form a b AsScalar AsIdentifier own other is = absurd (true≢false (sym (ap is_identifier is)))
+one_form a b AsScalar AsScalar own other is = (ap word is, refl)
+one_form a b AsScalar (AsBit j) own other is = absurd (own b j other (ap word is))
+one_form a b (AsBit i) AsIdentifier own other is = absurd (true≢false (sym (ap is_identifier is)))
+one_form a b (AsBit i) AsScalar own other is = absurd (other a i own (sym (ap word is)))
+one_form a b (AsBit i) (AsBit j) own other is = let parts = same_form a b i j own other (ap word is) in (parts.0, ap AsBit parts.1)
 
 there_is : {A : Type 0} (xs : List A) (i : ℕ) → i < length xs → (x : A) × (slice_get xs i ≡ Some x)
 there_is [] i low = absurd (omega (arith, low))
@@ -119,42 +102,155 @@ differ_more names one differ none i j x at there = by (slice_get_append names (o
     by (inr a) (inl b) = absurd (none (j, b ∙ ap (λ (o : Named). Some o) (sym (only_last one x a.0 a.2).0)))
     by (inr a) (inr b) = omega (arith, a.1, b.1, (only_last one x a.0 a.2).1, (only_last one x b.0 b.2).1)
 
-module _ (old new : List (List ℕ)) (keys new_keys : List ℕ) (number : ℕ) (front : List ℕ) (code key : ℕ) (at : slice_get new number ≡ Some front) (grows : Grows old new) (differ : AllDiffer new)
-    (few : length new ≤ length old + 1) (coded : IsCoded front code) (is_key : key ≡ number * 2 ^ 33 + code) (names : List Named) (seen : AreSeen old keys names) where
-  own_key : IsKeyOf new key (named front code)
-  own_key = record { number = number; front = front; code = code; at = at; is = is_key; coded = coded; tells = refl }
+among_more : (names : List Named) (one other : Named) → IsAmong (names ++ one ∷ []) other → IsAmong names other ⊎ (one ≡ other)
+among_more names one other (k, at) = elim (slice_get_append names (one ∷ []) k other at) [ inl here ↦ inl (k, here) | inr last ↦ inr (only_last one other last.0 last.2).0 ]
 
-  key_of : (k j : ℕ) (one : Named) → slice_get keys k ≡ Some j → slice_get names k ≡ Some one → IsKeyOf new j one
-  key_of k j one here there = grown old new grows j one (seen.each k j one here there)
+among_before : (names : List Named) (one other : Named) → IsAmong names other → IsAmong (names ++ one ∷ []) other
+among_before names one other (k, at) = (k, slice_get_left names (one ∷ []) k other at)
 
-  pub seen_before : IsIn keys key → IsAmong names (named front code)
-  seen_before (k, here) =
-      let name = there_is names k (omega (arith, seen.size, slice_get_within keys k key here)) in
-      (k, name.1 ∙ ap (λ (o : Named). Some o) (same_name new differ key key name.0 (named front code) (key_of k key name.0 here name.1) own_key refl))
+among_last : (names : List Named) (one : Named) → IsAmong (names ++ one ∷ []) one
+among_last names one = (length names + 0, slice_get_right names (one ∷ []) (length names + 0) 0 one refl refl)
 
-  not_among : ¬ IsIn keys key → ¬ IsAmong names (named front code)
-  not_among none (k, there) =
-      let own = there_is keys k (omega (arith, seen.size, slice_get_within names k (named front code) there)) in
-      none (k, own.1 ∙ ap (λ (j : ℕ). Some j) (same_key new differ own.0 key (named front code) (named front code) (key_of k own.0 (named front code) own.1 there) own_key refl))
+-- A front is met in one more form: the numbers grow, and what was met is what was met before and this
 
-  pub seen_more : ¬ IsIn keys key → new_keys ≡ keys ++ key ∷ [] → AreSeen new new_keys (names ++ named front code ∷ [])
-  seen_more none is = record {
+module _ (old new : Seen) (number : ℕ) (front : List ℕ) (form : Form) (at : slice_get new.fronts number ≡ Some front) (grows : Grows old.fronts new.fronts) (differ : AllDiffer new.fronts)
+    (few : length new.fronts ≤ length old.fronts + 1) (is_form : IsFormOf front form)
+    (meets : (n : ℕ) (x : List ℕ) (other : Form) → IsFormOf x other → IsMet new n other ↔ (IsMet old n other ⊎ ((n ≡ number) × (other ≡ form)))) (names : List Named) (seen : AreSeen old names) where
+  -- a number of a front that was met before is the front's from then on
+  was_at : (n : ℕ) (x : List ℕ) → n < length old.fronts → slice_get new.fronts n ≡ Some x → slice_get old.fronts n ≡ Some x
+  was_at n x low here = let own = there_is old.fronts n low in own.1 ∙ sym (grows n own.0 own.1) ∙ here
+
+  made_of : (n : ℕ) (x : List ℕ) (other : Form) → slice_get new.fronts n ≡ Some x → IsFormOf x other → IsAmong names (named x other) → IsMet old n other
+  made_of n x other here is among =
+      let own = seen.made (named x other) among in
+      let parts = one_form own.front x own.form other own.is is own.tells in
+      let same : own.number ≡ n = differ own.number n x (grows own.number own.front own.at ∙ ap (λ (y : List ℕ). Some y) parts.0) here in
+      let met = (seen.tells own.number own.front own.form own.at own.is).1 (subst (λ (o : Named). IsAmong names o) (sym own.tells) among) in
+      subst (λ (m : ℕ). IsMet old m other) same (subst (λ (f : Form). IsMet old own.number f) parts.1 met)
+
+  pub met_before : IsMet old number form → IsAmong names (named front form)
+  met_before met =
+      let low = seen.within number front form is_form met in
+      (seen.tells number front form (was_at number front low at) is_form).0 met
+
+  pub met_more : ¬ IsMet old number form → AreSeen new (names ++ named front form ∷ [])
+  met_more none = record {
     fronts_differ = differ;
-    few = omega (arith, few, seen.few, length-append names (named front code ∷ []));
-    size = ap length is ∙ (let e = length-append keys (key ∷ []) in let f = length-append names (named front code ∷ []) in omega (arith, e, f, seen.size));
-    each = each;
-    differ = differ_more names (named front code) seen.differ (not_among none);
+    few = omega (arith, few, seen.few, length-append names (named front form ∷ []));
+    within = λ n x other is met. elim ((meets n x other is).0 met) [
+      | inl before ↦ (
+          let low = seen.within n x other is before in
+          let own = there_is old.fronts n low in
+          slice_get_within new.fronts n own.0 (grows n own.0 own.1))
+      | inr now ↦ subst (λ (m : ℕ). m < length new.fronts) (sym now.0) (slice_get_within new.fronts number front at)
+    ];
+    tells = λ n x other here is. (to n x other here is, from n x other here is);
+    made = λ one among. elim (among_more names (named front form) one among) [
+      | inl before ↦ (let own = seen.made one before in record { number = own.number; front = own.front; form = own.form; at = grows own.number own.front own.at; is = own.is; tells = own.tells })
+      | inr now ↦ record { number = number; front = front; form = form; at = at; is = is_form; tells = now }
+    ];
+    differ = differ_more names (named front form) seen.differ (λ among. none (made_of number front form at is_form among));
   }
     where
-      each : (k j : ℕ) (one : Named) → slice_get new_keys k ≡ Some j → slice_get (names ++ named front code ∷ []) k ≡ Some one → IsKeyOf new j one
-      each k j one here there = by (slice_get_append keys (key ∷ []) k j (sym (ap (λ (xs : List ℕ). slice_get xs k) is) ∙ here)) (slice_get_append names (named front code ∷ []) k one there)
-        where
-          by : (slice_get keys k ≡ Some j) ⊎ ((m : ℕ) × (k ≡ length keys + m) × (slice_get (key ∷ []) m ≡ Some j)) → (slice_get names k ≡ Some one) ⊎ ((m : ℕ) × (k ≡ length names + m) × (slice_get (named front code ∷ []) m ≡ Some one)) → IsKeyOf new j one
-          by (inl a) (inl b) = key_of k j one a b
-          by (inl a) (inr b) = absurd (omega (arith, slice_get_within keys k j a, b.1, seen.size))
-          by (inr a) (inl b) = absurd (omega (arith, slice_get_within names k one b, a.1, seen.size))
-          by (inr a) (inr b) = subst (λ (l : ℕ). IsKeyOf new l one) (only_last key j a.0 a.2).0 (subst (λ (o : Named). IsKeyOf new key o) (only_last (named front code) one b.0 b.2).0 own_key)
+      to : (n : ℕ) (x : List ℕ) (other : Form) → slice_get new.fronts n ≡ Some x → IsFormOf x other → IsMet new n other → IsAmong (names ++ named front form ∷ []) (named x other)
+      to n x other here is met = elim ((meets n x other is).0 met) [
+        | inl before ↦ (
+            let low = seen.within n x other is before in
+            among_before names (named front form) (named x other) ((seen.tells n x other (was_at n x low here) is).0 before))
+        | inr now ↦ (
+            let same : front ≡ x = same_Some _ _ (sym at ∙ ap (slice_get new.fronts) (sym now.0) ∙ here) in
+            subst (λ (o : Named). IsAmong (names ++ named front form ∷ []) o) (ap (λ (y : List ℕ). named y form) same ∙ ap (named x) (sym now.1)) (among_last names (named front form)))
+      ]
 
-  pub sees : (there : Bool) → MatchBool there (IsIn keys key × (new_keys ≡ keys)) ((¬ IsIn keys key) × (new_keys ≡ keys ++ key ∷ [])) → Sees new new_keys names (named front code) there
-  sees true own = seen_before own.0
-  sees false own = seen_more own.0 own.1
+      from : (n : ℕ) (x : List ℕ) (other : Form) → slice_get new.fronts n ≡ Some x → IsFormOf x other → IsAmong (names ++ named front form ∷ []) (named x other) → IsMet new n other
+      from n x other here is among = (meets n x other is).1 (elim (among_more names (named front form) (named x other) among) [
+        | inl before ↦ inl (made_of n x other here is before)
+        | inr now ↦ (
+            let parts = one_form front x form other is_form is now in
+            inr (differ n number x here (at ∙ ap (λ (y : List ℕ). Some y) parts.0), sym parts.1))
+      ])
+
+-- Identifiers and scalars by marks, bits by keys
+
+pub ok_with : {T E : Type 0} (r : Result T E) (P R : T → Type 0) (Q : Type 0) → ((x : T) → P x → Q → R x) → IfOk r P → OnOk r Q → IfOk r R
+ok_with (Ok x) P R Q gives one other = gives x one other
+ok_with (Err e) P R Q gives one other = one
+
+pub sees_marked : (old new : Seen) (names : List Named) (number : ℕ) (front : List ℕ) (form : Form) (there was : Bool) → there ≡ was → (was ≡ true → IsAmong names (named front form))
+    → ((¬ (was ≡ true)) → AreSeen new (names ++ named front form ∷ [])) → Sees new names (named front form) there
+sees_marked old new names number front form there was is before more = by there is
+  where
+    by : (b : Bool) → b ≡ was → Sees new names (named front form) b
+    by true is = before (sym is)
+    by false is = more (λ t. true≢false (sym t ∙ sym is))
+
+module _ (old new : Seen) (number : ℕ) (front : List ℕ) (at : slice_get new.fronts number ≡ Some front) (grows : Grows old.fronts new.fronts) (differ : AllDiffer new.fronts)
+    (few : length new.fronts ≤ length old.fronts + 1) (names : List Named) (seen : AreSeen old names) (there : Bool) where
+  pub sees_identifier : there ≡ is_marked old.identifiers.items number → ((n : ℕ) → (is_marked new.identifiers.items n ≡ true) ↔ ((is_marked old.identifiers.items n ≡ true) ⊎ (n ≡ number)))
+      → new.scalars ≡ old.scalars → new.keys ≡ old.keys → Sees new names (Identifier front) there
+  sees_identifier is marked scalars keys =
+      sees_marked old new names number front AsIdentifier there (is_marked old.identifiers.items number) is
+      (met_before old new number front AsIdentifier at grows differ few tt meets names seen)
+      (met_more old new number front AsIdentifier at grows differ few tt meets names seen)
+    where
+      meets : (n : ℕ) (x : List ℕ) (other : Form) → IsFormOf x other → IsMet new n other ↔ (IsMet old n other ⊎ ((n ≡ number) × (other ≡ AsIdentifier)))
+      meets n x AsIdentifier own = (λ t. elim ((marked n).0 t) [ inl s ↦ inl s | inr e ↦ inr (e, refl) ], λ t. (marked n).1 (elim t [ inl s ↦ inl s | inr e ↦ inr e.0 ]))
+      meets n x AsScalar own = (λ t. inl (subst (λ s. is_marked s.items n ≡ true) scalars t), λ t. elim t [ inl s ↦ subst (λ s. is_marked s.items n ≡ true) (sym scalars) s | inr e ↦ absurd (cc e.1) ])
+      meets n x (AsBit index) own = (λ t. inl (subst (λ s. IsIn s.keys (n * 2 ^ 32 + index)) keys t), λ t. elim t [ inl s ↦ subst (λ s. IsIn s.keys (n * 2 ^ 32 + index)) (sym keys) s | inr e ↦ absurd (cc e.1) ])
+
+  pub sees_whole : IsWhole front → there ≡ is_marked old.scalars.items number → ((n : ℕ) → (is_marked new.scalars.items n ≡ true) ↔ ((is_marked old.scalars.items n ≡ true) ⊎ (n ≡ number)))
+      → new.identifiers ≡ old.identifiers → new.keys ≡ old.keys → Sees new names (BitName front) there
+  sees_whole whole is marked identifiers keys =
+      sees_marked old new names number front AsScalar there (is_marked old.scalars.items number) is
+      (met_before old new number front AsScalar at grows differ few whole meets names seen)
+      (met_more old new number front AsScalar at grows differ few whole meets names seen)
+    where
+      meets : (n : ℕ) (x : List ℕ) (other : Form) → IsFormOf x other → IsMet new n other ↔ (IsMet old n other ⊎ ((n ≡ number) × (other ≡ AsScalar)))
+      meets n x AsIdentifier own = (λ t. inl (subst (λ s. is_marked s.items n ≡ true) identifiers t), λ t. elim t [ inl s ↦ subst (λ s. is_marked s.items n ≡ true) (sym identifiers) s | inr e ↦ absurd (cc e.1) ])
+      meets n x AsScalar own = (λ t. elim ((marked n).0 t) [ inl s ↦ inl s | inr e ↦ inr (e, refl) ], λ t. (marked n).1 (elim t [ inl s ↦ inl s | inr e ↦ inr e.0 ]))
+      meets n x (AsBit index) own = (λ t. inl (subst (λ s. IsIn s.keys (n * 2 ^ 32 + index)) keys t), λ t. elim t [ inl s ↦ subst (λ s. IsIn s.keys (n * 2 ^ 32 + index)) (sym keys) s | inr e ↦ absurd (cc e.1) ])
+
+  pub sees_bit : (index key : ℕ) → index < 2 ^ 32 → key ≡ number * 2 ^ 32 + index
+      → MatchBool there (IsIn old.keys.keys key × (new.keys.keys ≡ old.keys.keys)) ((¬ IsIn old.keys.keys key) × (new.keys.keys ≡ old.keys.keys ++ key ∷ []))
+      → new.identifiers ≡ old.identifiers → new.scalars ≡ old.scalars → Sees new names (BitName (indexed_name front index)) there
+  sees_bit index key small is told identifiers scalars = by there told
+    where
+      own_key : IsIn old.keys.keys key → IsMet old number (AsBit index)
+      own_key own = subst (λ (k : ℕ). IsIn old.keys.keys k) is own
+
+      only : (there : Bool) → MatchBool there (IsIn old.keys.keys key × (new.keys.keys ≡ old.keys.keys)) ((¬ IsIn old.keys.keys key) × (new.keys.keys ≡ old.keys.keys ++ key ∷ []))
+          → (k : ℕ) → IsIn new.keys.keys k ↔ (IsIn old.keys.keys k ⊎ (k ≡ key))
+      only true own k = (
+        λ t. inl (subst (λ (keys : List ℕ). IsIn keys k) own.1 t),
+        λ t. elim t [ inl s ↦ subst (λ (keys : List ℕ). IsIn keys k) (sym own.1) s | inr e ↦ subst (λ (keys : List ℕ). IsIn keys k) (sym own.1) (subst (λ (j : ℕ). IsIn old.keys.keys j) (sym e) own.0) ],
+      )
+      only false own k = (
+        λ t. (
+            let here = subst (λ (keys : List ℕ). IsIn keys k) own.1 t in
+            elim (slice_get_append old.keys.keys (key ∷ []) here.0 k here.1) [ inl before ↦ inl (here.0, before) | inr last ↦ inr (sym (only_last key k last.0 last.2).0) ]),
+        λ t. subst (λ (keys : List ℕ). IsIn keys k) (sym own.1) (elim t [
+          | inl s ↦ (s.0, slice_get_left old.keys.keys (key ∷ []) s.0 k s.1)
+          | inr e ↦ (length old.keys.keys + 0, slice_get_right old.keys.keys (key ∷ []) (length old.keys.keys + 0) 0 k refl (ap (λ (j : ℕ). Some j) (sym e)))
+        ]),
+      )
+
+      meets : (n : ℕ) (x : List ℕ) (other : Form) → IsFormOf x other → IsMet new n other ↔ (IsMet old n other ⊎ ((n ≡ number) × (other ≡ AsBit index)))
+      meets n x AsIdentifier own = (λ t. inl (subst (λ s. is_marked s.items n ≡ true) identifiers t), λ t. elim t [ inl s ↦ subst (λ s. is_marked s.items n ≡ true) (sym identifiers) s | inr e ↦ absurd (cc e.1) ])
+      meets n x AsScalar own = (λ t. inl (subst (λ s. is_marked s.items n ≡ true) scalars t), λ t. elim t [ inl s ↦ subst (λ s. is_marked s.items n ≡ true) (sym scalars) s | inr e ↦ absurd (cc e.1) ])
+      meets n x (AsBit i) own = (
+        λ t. elim ((only there told (n * 2 ^ 32 + i)).0 t) [
+          | inl s ↦ inl s
+          | inr e ↦ (
+              let same : n ≡ number = omega (arith, e, is, own, small) in
+              let place : i ≡ index = omega (arith, e, is, own, small) in
+              inr (same, ap AsBit place))
+        ],
+        λ t. (only there told (n * 2 ^ 32 + i)).1 (elim t [
+          | inl s ↦ inl s
+          | inr e ↦ (let place : i ≡ index = cc e.1 in inr (omega (arith, e.0, place, is)))
+        ]),
+      )
+
+      by : (b : Bool) → MatchBool b (IsIn old.keys.keys key × (new.keys.keys ≡ old.keys.keys)) ((¬ IsIn old.keys.keys key) × (new.keys.keys ≡ old.keys.keys ++ key ∷ [])) → Sees new names (BitName (indexed_name front index)) b
+      by true own = met_before old new number front (AsBit index) at grows differ few small meets names seen (own_key own.0)
+      by false own = met_more old new number front (AsBit index) at grows differ few small meets names seen (λ met. own.0 (subst (λ (k : ℕ). IsIn old.keys.keys k) (sym is) met))

@@ -1,47 +1,62 @@
 -- Names that were met, by numbers.
-use Rattle.std.specs.Prelude.{◌≡◌, ◌≢◌, ℕ, zero, suc, ◌+◌, ◌*◌, ◌^◌, ◌<◌, ◌≤◌, Bool, List, [], ◌∷◌, ◌++◌, take, length, slice_get, Some, MatchBool}
+use Rattle.std.specs.Prelude.{◌≡◌, ◌≢◌, ◌↔◌, ℕ, ◌+◌, ◌*◌, ◌^◌, ◌<◌, ◌≤◌, Bool, true, List, [], ◌∷◌, ◌++◌, take, length, slice_get, Some, MatchBool, ⊤}
+use Rattle.net_core.specs.Netlist.{IsIn}
 use Rattle.net_core.specs.WellFormed.{AllDiffer, indexed_name}
+use Rattle.flat_settle.specs.declared.seen.Seen.{Seen}
 use Rattle.flat_settle.specs.Refusals.{Named, Identifier, BitName, word}
+use Rattle.flat_settle.specs.Tables.{is_marked}
 
--- what a front and a code tell: the code 0 an identifier, 1 a scalar's bit, and i + 2 bit i of a vector
-abbrev pub named : List ℕ → ℕ → Named
-named front zero = Identifier front
-named front (suc zero) = BitName front
-named front (suc (suc i)) = BitName (indexed_name front i)
+-- what a front names: a group or a cell, a scalar's bit, or a bit of a vector by its index
+pub data Form : Type 0 where
+  AsIdentifier : Form
+  AsScalar : Form
+  AsBit : ℕ → Form
+
+abbrev pub named : List ℕ → Form → Named
+named front AsIdentifier = Identifier front
+named front AsScalar = BitName front
+named front (AsBit index) = BitName (indexed_name front index)
 
 -- the name has not the form of a vector's bit
 abbrev pub IsWhole : List ℕ → Type 0
 IsWhole name = (front : List ℕ) (index : ℕ) → index < 2 ^ 32 → name ≢ indexed_name front index
 
--- a front with this code is the one way to tell what it tells
-pub record IsCoded (front : List ℕ) (code : ℕ) : Type 0 where
-  pub small : code < 2 ^ 32 + 2
-  pub whole : code ≡ 1 → IsWhole front
+-- a front with this form is the one way to tell what it tells
+abbrev pub IsFormOf : List ℕ → Form → Type 0
+IsFormOf front AsIdentifier = ⊤
+IsFormOf front AsScalar = IsWhole front
+IsFormOf front (AsBit index) = index < 2 ^ 32
 
--- the key tells this, by the number of its front among these
-pub record IsKeyOf (fronts : List (List ℕ)) (key : ℕ) (one : Named) : Type 0 where
+-- the front of this number was met in this form
+abbrev pub IsMet : Seen → ℕ → Form → Type 0
+IsMet seen number AsIdentifier = is_marked seen.identifiers.items number ≡ true
+IsMet seen number AsScalar = is_marked seen.scalars.items number ≡ true
+IsMet seen number (AsBit index) = IsIn seen.keys.keys (number * 2 ^ 32 + index)
+
+-- the name is made of one of the fronts
+pub record IsMadeOf (fronts : List (List ℕ)) (one : Named) : Type 0 where
   pub number : ℕ
   pub front : List ℕ
-  pub code : ℕ
+  pub form : Form
   pub at : slice_get fronts number ≡ Some front
-  pub is : key ≡ number * 2 ^ 33 + code
-  pub coded : IsCoded front code
-  pub tells : named front code ≡ one
-
--- the keys tell these names, which are all different
-pub record AreSeen (fronts : List (List ℕ)) (keys : List ℕ) (names : List Named) : Type 0 where
-  pub fronts_differ : AllDiffer fronts
-  pub few : length fronts ≤ length names
-  pub size : length keys ≡ length names
-  pub each : (k key : ℕ) (one : Named) → slice_get keys k ≡ Some key → slice_get names k ≡ Some one → IsKeyOf fronts key one
-  pub differ : AllDiffer names
+  pub is : IsFormOf front form
+  pub tells : named front form ≡ one
 
 abbrev pub IsAmong : List Named → Named → Type 0
 IsAmong names one = (k : ℕ) × (slice_get names k ≡ Some one)
 
+-- these names were met, which are all different
+pub record AreSeen (seen : Seen) (names : List Named) : Type 0 where
+  pub fronts_differ : AllDiffer seen.fronts
+  pub few : length seen.fronts ≤ length names
+  pub within : (number : ℕ) (front : List ℕ) (form : Form) → IsFormOf front form → IsMet seen number form → number < length seen.fronts
+  pub tells : (number : ℕ) (front : List ℕ) (form : Form) → slice_get seen.fronts number ≡ Some front → IsFormOf front form → IsMet seen number form ↔ IsAmong names (named front form)
+  pub made : (one : Named) → IsAmong names one → IsMadeOf seen.fronts one
+  pub differ : AllDiffer names
+
 -- one more was met: it is among the names, or stands behind them
-abbrev pub Sees : List (List ℕ) → List ℕ → List Named → Named → Bool → Type 0
-Sees fronts keys names one there = MatchBool there (IsAmong names one) (AreSeen fronts keys (names ++ one ∷ []))
+abbrev pub Sees : Seen → List Named → Named → Bool → Type 0
+Sees seen names one there = MatchBool there (IsAmong names one) (AreSeen seen (names ++ one ∷ []))
 
 -- an item of the list is among the names or earlier in the list, and all before it are different
 pub record RepeatsAfter (names more : List Named) (name : List ℕ) : Type 0 where

@@ -9,7 +9,7 @@ ghost use Rattle.flat_settle.specs.Naming.{AreSeen, IsAmong, Sees, RepeatsAfter}
 use crate::bit_name::{index_at, indexed};
 use crate::numbers::Numbers;
 use crate::raw::{Raw, RawCell};
-use crate::seen::{Seen, see, see_first, see_next, split};
+use crate::seen::{Seen, see_bit, see_form, see_identifier, see_whole, split};
 use ila_base::{Name, NoMemory};
 use indexmap::IndexSet;
 use net_core::Group;
@@ -20,11 +20,11 @@ fn see_scalar<'a>(seen: &mut Seen<'a>, number: usize, name: &'a [u8]) -> Result<
     requires at { slice_get seen.old.fronts number ≡ Some name.now }
     requires few { length seen.old.fronts < 2 ^ 30 }
     requires spelled { IsIdentifier name.now }
-    ensures { IfOk result (λ there. (names : List Named) → AreSeen seen.old.fronts seen.old.keys.keys names → Sees seen.new.fronts seen.new.keys.keys names (BitName name.now) there) }
+    ensures { IfOk result (λ there. (names : List Named) → AreSeen seen.old names → Sees seen.new names (BitName name.now) there) }
 {
     match split(name) {
-        Some((front, index)) => see(seen, front, index as u64 + 2),
-        None => see_next(seen, number, name, 1),
+        Some((front, index)) => see_form(seen, front, index),
+        None => see_whole(seen, number, name),
     }
 }
 
@@ -43,11 +43,11 @@ fn see_vector(
     requires few { length seen.old.fronts < 2 ^ 30 }
     requires small { (left ≤ 1048575) × (right ≤ 1048575) }
     requires count { count ≡ (left - right) + (right - left) + 1 }
-    ensures { IfOk result (λ found. (names : List Named) → AreSeen seen.old.fronts seen.old.keys.keys names → MatchOption found (AreSeen seen.new.fronts seen.new.keys.keys (names ++ map BitName (map (indexed_name front.now) (range_indices left right)))) (λ name. RepeatsAfter names (map BitName (map (indexed_name front.now) (range_indices left right))) name)) }
+    ensures { IfOk result (λ found. (names : List Named) → AreSeen seen.old names → MatchOption found (AreSeen seen.new (names ++ map BitName (map (indexed_name front.now) (range_indices left right)))) (λ name. RepeatsAfter names (map BitName (map (indexed_name front.now) (range_indices left right))) name)) }
 {
     for place in 0..count {
         let index = index_at(left, right, place);
-        if see_next(seen, number, front, index as u64 + 2)? {
+        if see_bit(seen, number, front, index)? {
             return Ok(Some(indexed(alloc, front, index)?));
         }
     }
@@ -65,7 +65,7 @@ fn see_bits<'a>(
     requires few { length seen.old.fronts < 2 ^ 30 }
     requires range { HasRange group.now }
     requires spelled { IsIdentifier group.now.name }
-    ensures { IfOk result (λ found. (names : List Named) → AreSeen seen.old.fronts seen.old.keys.keys names → MatchOption found (AreSeen seen.new.fronts seen.new.keys.keys (names ++ map BitName (bit_names group.now))) (λ name. RepeatsAfter names (map BitName (bit_names group.now)) name)) }
+    ensures { IfOk result (λ found. (names : List Named) → AreSeen seen.old names → MatchOption found (AreSeen seen.new (names ++ map BitName (bit_names group.now))) (λ name. RepeatsAfter names (map BitName (bit_names group.now)) name)) }
 {
     match group.range {
         Some((left, right)) => see_vector(
@@ -96,9 +96,9 @@ fn see_group<'a>(
     requires range { HasRange group.now }
     requires spelled { IsIdentifier group.now.name }
     requires few { length seen.old.fronts + 1 < 2 ^ 30 }
-    ensures { IfOk result (λ found. (names : List Named) → AreSeen seen.old.fronts seen.old.keys.keys names → MatchOption found (AreSeen seen.new.fronts seen.new.keys.keys (names ++ group_names group.now)) (λ name. RepeatsAfter names (group_names group.now) name)) }
+    ensures { IfOk result (λ found. (names : List Named) → AreSeen seen.old names → MatchOption found (AreSeen seen.new (names ++ group_names group.now)) (λ name. RepeatsAfter names (group_names group.now) name)) }
 {
-    let (there, number) = see_first(seen, group.name.bytes(), 0)?;
+    let (there, number) = see_identifier(seen, group.name.bytes())?;
     if there {
         return Ok(Some(group.name.copied(alloc)?));
     }
@@ -111,11 +111,11 @@ fn see_groups<'a>(
     seen: &mut Seen<'a>,
     groups: &'a [Group],
 ) -> Result<Option<Name>, NoMemory>
-    requires start { AreSeen seen.old.fronts seen.old.keys.keys [] }
+    requires start { AreSeen seen.old [] }
     requires ranges { Each HasRange groups.now }
     requires spelled { Each (λ (group : GroupOf). IsIdentifier group.name) groups.now }
     requires few { length (flat_map group_names groups.now) < 2 ^ 30 }
-    ensures { IfOk result (λ found. MatchOption found (AreSeen seen.new.fronts seen.new.keys.keys (flat_map group_names groups.now)) (λ name. RepeatsAfter [] (flat_map group_names groups.now) name)) }
+    ensures { IfOk result (λ found. MatchOption found (AreSeen seen.new (flat_map group_names groups.now)) (λ name. RepeatsAfter [] (flat_map group_names groups.now) name)) }
 {
     for group in groups {
         match see_group(alloc, seen, group)? {
@@ -134,11 +134,12 @@ fn see_cell<'a>(
 ) -> Result<Option<Name>, NoMemory>
     requires { length seen.old.fronts < 2 ^ 30 }
     ensures few { OnOk result (length seen.new.fronts ≤ length seen.old.fronts + 1) }
-    ensures sees { IfOk result (λ found. (names : List Named) → AreSeen seen.old.fronts seen.old.keys.keys names → MatchOption found (AreSeen seen.new.fronts seen.new.keys.keys (names ++ cell_names (cell.now ∷ []))) (λ name. (cell.now.name ≡ Some name) × IsAmong names (Identifier name))) }
+    ensures sees { IfOk result (λ found. (names : List Named) → AreSeen seen.old names → MatchOption found (AreSeen seen.new (names ++ cell_names (cell.now ∷ []))) (λ name. (cell.now.name ≡ Some name) × IsAmong names (Identifier name))) }
 {
     match &cell.name {
         Some(name) => {
-            if see(seen, name.bytes(), 0)? {
+            let (there, _number) = see_identifier(seen, name.bytes())?;
+            if there {
                 Ok(Some(name.copied(alloc)?))
             } else {
                 Ok(None)
@@ -155,7 +156,7 @@ fn see_cells<'a>(
     cells: &'a [RawCell],
 ) -> Result<Option<Name>, NoMemory>
     requires { length seen.old.fronts + length cells.now < 2 ^ 30 }
-    ensures { IfOk result (λ found. (names : List Named) → AreSeen seen.old.fronts seen.old.keys.keys names → MatchOption found (AreSeen seen.new.fronts seen.new.keys.keys (names ++ cell_names cells.now)) (λ name. RepeatsAfter names (cell_names cells.now) name)) }
+    ensures { IfOk result (λ found. (names : List Named) → AreSeen seen.old names → MatchOption found (AreSeen seen.new (names ++ cell_names cells.now)) (λ name. RepeatsAfter names (cell_names cells.now) name)) }
 {
     for cell in cells {
         match see_cell(alloc, seen, cell)? {
@@ -174,6 +175,8 @@ pub fn repeated_name(alloc: Global, raw: &Raw) -> Result<Option<Name>, NoMemory>
 {
     let mut seen = Seen {
         fronts: Numbers::new(alloc),
+        identifiers: Vec::new(alloc),
+        scalars: Vec::new(alloc),
         keys: IndexSet::new(alloc),
     };
     match see_groups(alloc, &mut seen, raw.groups.as_slice())? {

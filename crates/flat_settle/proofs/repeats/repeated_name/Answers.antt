@@ -29,9 +29,9 @@ returns-in-Some c =
     (repeats_widen [] names (cell_names c.args.raw.now.cells) c.in-Some.name (subst (λ (groups : List Group). RepeatsAfter [] (flat_map group_names groups) c.in-Some.name) c.as_slice.ensures repeats))
 
 -- the groups were met
-met : (c : After-as_slice-in-None) → AreSeen c.see_groups.new.seen.fronts c.see_groups.new.seen.keys.keys (flat_map group_names c.args.raw.now.groups)
-met c = subst (λ (groups : List Group). AreSeen c.see_groups.new.seen.fronts c.see_groups.new.seen.keys.keys (flat_map group_names groups)) c.as_slice.ensures
-    (at_none c.in_ok-name.field-0 (AreSeen c.see_groups.new.seen.fronts c.see_groups.new.seen.keys.keys (flat_map group_names c.as_slice.result.now)) _ c.in-None.is c.in_ok-name.ensures)
+met : (c : After-as_slice-in-None) → AreSeen c.see_groups.new.seen (flat_map group_names c.args.raw.now.groups)
+met c = subst (λ (groups : List Group). AreSeen c.see_groups.new.seen (flat_map group_names groups)) c.as_slice.ensures
+    (at_none c.in_ok-name.field-0 (AreSeen c.see_groups.new.seen (flat_map group_names c.as_slice.result.now)) _ c.in-None.is c.in_ok-name.ensures)
 
 pub see_cells-requires : goal.see_cells-requires
 see_cells-requires c =

@@ -10,6 +10,6 @@ see_vector-requires-clause-count c = c.len.ensures ∙ vector_width c.args.group
 
 pub returns-in_ok-copied-in-None : goal.returns-in_ok-copied-in-None
 returns-in_ok-copied-in-None c = λ names seen. (
-    let among = sees_true c.see_scalar.new.seen.fronts c.see_scalar.new.seen.keys.keys names (BitName c.bytes-in-None.result.now) c.in_ok-see_scalar-in-None.field-0 c.if-branch.true (c.in_ok-see_scalar-in-None.ensures names seen) in
+    let among = sees_true c.see_scalar.new.seen names (BitName c.bytes-in-None.result.now) c.in_ok-see_scalar-in-None.field-0 c.if-branch.true (c.in_ok-see_scalar-in-None.ensures names seen) in
     repeats_first names _ (BitName c.args.group.now.name) c.in_ok-copied-in-None.field-0 [] (ap (map BitName) (scalar_names c.args.group.now c.in-None.is)) (sym c.in_ok-copied-in-None.ensures)
     (subst (λ (name : List _). IsAmong names (BitName name)) c.bytes-in-None.ensures among) seen.differ)

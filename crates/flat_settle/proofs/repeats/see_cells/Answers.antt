@@ -23,7 +23,7 @@ loop-cell-preserved c =
       λ names seen. (
           let before = cell_names (take c.loop-cell.cell-index c.args.cells.now) in
           let met = c.loop-cell.invariant.1 names seen in
-          let own = at_none c.in_ok-name.field-0 (AreSeen c.see_cell.new.seen.fronts c.see_cell.new.seen.keys.keys ((names ++ before) ++ cell_names (c.cell-item.result ∷ []))) _ c.in-None.is (c.in_ok-name.ensures.sees (names ++ before) met) in
-          subst (λ (zs : List Named). AreSeen c.see_cell.new.seen.fronts c.see_cell.new.seen.keys.keys zs)
+          let own = at_none c.in_ok-name.field-0 (AreSeen c.see_cell.new.seen ((names ++ before) ++ cell_names (c.cell-item.result ∷ []))) _ c.in-None.is (c.in_ok-name.ensures.sees (names ++ before) met) in
+          subst (λ (zs : List Named). AreSeen c.see_cell.new.seen zs)
           (append_assoc names before (cell_names (c.cell-item.result ∷ [])) ∙ ap (λ zs. names ++ zs) (sym (cell_names_more c.args.cells.now c.loop-cell.cell-index c.cell-item.result at))) own),
     )

@@ -6,4 +6,4 @@ use Rattle.flat_settle.proofs.repeats.see_cells.Given as goal
 abbrev pub invariant-loop-cell : goal.invariant-loop-cell
 invariant-loop-cell l =
     (length l.seen.fronts ≤ length l.initial.seen.fronts + l.cell-index)
-    × ((names : List Named) → AreSeen l.initial.seen.fronts l.initial.seen.keys.keys names → AreSeen l.seen.fronts l.seen.keys.keys (names ++ cell_names (take l.cell-index l.cells)))
+    × ((names : List Named) → AreSeen l.initial.seen names → AreSeen l.seen (names ++ cell_names (take l.cell-index l.cells)))
