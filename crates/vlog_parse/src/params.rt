@@ -13,19 +13,19 @@ use crate::tree::Value;
 use ila_base::{Items, Name, NoMemory};
 use std::alloc::Global;
 
-/// The same parameters.
+/// The same parameters, in no more memory than they take.
 pub fn copied(
     alloc: Global,
     params: &Items<(Name, Value)>,
 ) -> Result<Items<(Name, Value)>, NoMemory>
     ensures { IfOk result (λ copy. copy ≡ params.now) }
 {
-    let mut copy = Items::new(alloc);
+    let mut copy = Vec::with_capacity(alloc, params.len())?;
     'params: for param in params.as_slice() {
         let name = param.0.copied(alloc)?;
         copy.push((name, param.1))?;
     }
-    Ok(copy)
+    Ok(Items::from_vec(copy))
 }
 
 impl<'a> Parser<'a> {
