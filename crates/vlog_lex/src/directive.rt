@@ -22,6 +22,9 @@ fn is_endif(text: &[u8]) -> bool
     ensures value { result ≡ is_endif text.now }
     ensures long { IsTrue result → 6 ≤ length text.now }
 {
+    if !matches!(text, [b'`', ..]) {
+        return false;
+    }
     if !text.starts_with(b"`endif") {
         return false;
     }
