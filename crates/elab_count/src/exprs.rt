@@ -32,7 +32,7 @@ pub fn width_of(nets: &Nets, e: &Expr) -> u64
             left: *left,
             right: *right,
         })),
-        Expr::Const(word, _) => word.width as u64,
+        Expr::Const(word, _) => word.width() as u64,
         Expr::Concat(parts) => {
             let mut width: u64 = 0;
             for part in parts.as_slice() {

@@ -39,7 +39,7 @@ fn number_in(value: Value) -> u64
 {
     match value {
         Value::Whole(n) => n as u64,
-        Value::Sized(word) => word.value.min(MOST as u128) as u64,
+        Value::Sized(word) => word.word().value.min(MOST as u128) as u64,
         Value::Text => 0,
     }
 }

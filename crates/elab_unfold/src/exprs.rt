@@ -11,6 +11,7 @@ use crate::places::{Net, Places};
 use ila_base::{Items, NoMemory, Place, Word};
 use net_core::{NetId, Pin};
 use vlog_check::range_width;
+use vlog_lex::PackedWord;
 use vlog_parse::{Expr, Range};
 
 /// Adds nets with consecutive numbers.
@@ -120,13 +121,21 @@ fn bit_pin(bit: bool) -> Pin
     if bit { Pin::One } else { Pin::Zero }
 }
 
-// Adds the bits of a constant, the most significant first.
-fn push_constant(word: Word, out: &mut Items<Pin>) -> Result<(), NoMemory>
+// Adds the bits of a word, the most significant first.
+fn push_word(word: Word, out: &mut Items<Pin>) -> Result<(), NoMemory>
     ensures { OnOk result (out.new ≡ out.old ++ map bit_pin (word_bits word)) }
 {
     for k in 0..word.width {
         out.push(bit_pin(has_bit(word.value, word.width - 1 - k)))?;
     }
+    Ok(())
+}
+
+// Adds the bits of a constant, the most significant first.
+fn push_constant(constant: &PackedWord, out: &mut Items<Pin>) -> Result<(), NoMemory>
+    ensures { OnOk result (out.new ≡ out.old ++ map bit_pin (word_bits constant.now)) }
+{
+    push_word(constant.word(), out)?;
     Ok(())
 }
 
@@ -156,7 +165,7 @@ pub fn push_pins(places: &Places, base: u32, e: &Expr, out: &mut Items<Pin>) -> 
             Ok(())
         }
         Expr::Const(word, _) => {
-            push_constant(*word, out)?;
+            push_constant(word, out)?;
             Ok(())
         }
         Expr::Concat(parts) => {

@@ -27,7 +27,7 @@ fn number_in(value: Value) -> Option<u128>
 {
     match value {
         Value::Whole(n) => Some(n as u128),
-        Value::Sized(word) => Some(word.value),
+        Value::Sized(word) => Some(word.word().value),
         Value::Text => None,
     }
 }

@@ -1,4 +1,4 @@
-use ila_base::{LimitKind, NetRefusal};
+use ila_base::{LimitKind, NetRefusal, Word};
 use std::alloc::{AllocError, Global};
 use vlog_lex::{NetFault, NetStop, Token, TokenKind, tokens};
 
@@ -8,8 +8,7 @@ fn write_kind(line: &mut String, kind: TokenKind) -> Result<(), AllocError> {
         TokenKind::Escaped => line.push_str("E"),
         TokenKind::Number(value) => write!(line, "{value}"),
         TokenKind::Sized(word) => {
-            let width = word.width;
-            let value = word.value;
+            let Word { width, value } = word.word();
             write!(line, "{width}'{value}")
         }
         TokenKind::Text => line.push_str("T"),

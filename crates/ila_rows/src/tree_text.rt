@@ -137,7 +137,8 @@ impl TreeText {
                 self.bytes(b"=")?;
                 self.number(number)
             }
-            Value::Sized(word) => {
+            Value::Sized(packed) => {
+                let word = packed.word();
                 let text = format!(in self.alloc; "={}'{}", word.width, word.value)?;
                 self.bytes(text.as_bytes())
             }
@@ -182,7 +183,8 @@ impl TreeText {
                 self.span(*left, *right)?;
                 self.place(*place)
             }
-            Expr::Const(word, place) => {
+            Expr::Const(packed, place) => {
+                let word = packed.word();
                 let text = format!(in self.alloc; " {}'{}", word.width, word.value)?;
                 self.bytes(text.as_bytes())?;
                 self.place(*place)

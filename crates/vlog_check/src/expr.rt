@@ -195,7 +195,7 @@ fn gather(alloc: Global, names: &Names, e: &Expr) -> Result<Reading, NoMemory>
         Expr::Part(name, left, right, place) => {
             read_part(alloc, names, name, *left, *right, *place)
         }
-        Expr::Const(word, place) => Ok(declared(*place, word.width as u64, true)),
+        Expr::Const(word, place) => Ok(declared(*place, word.width() as u64, true)),
         Expr::Concat(parts) => {
             let mut all = Reading {
                 place: None,

@@ -23,7 +23,7 @@ fn is_bad_parameter(kind: &Kind, twice: bool, param: &(Name, Value)) -> bool
 {
     match kind {
         Kind::Module(_) => true,
-        Kind::Cell(sized) => twice || !accepts(sized.cell, param.0.bytes(), param.1),
+        Kind::Cell(sized) => twice || !accepts(sized.cell, param.0.bytes(), &param.1),
     }
 }
 

@@ -50,18 +50,18 @@ pub fn is_memory(cell: Primitive) -> bool
 }
 
 // The number of a value, where it is one.
-fn number_in(value: Value) -> Option<u128>
-    ensures { result ≡ table.number_in value }
+fn number_in(value: &Value) -> Option<u128>
+    ensures { result ≡ table.number_in value.now }
 {
     match value {
-        Value::Whole(n) => Some(n as u128),
-        Value::Sized(word) => Some(word.value),
+        Value::Whole(n) => Some(*n as u128),
+        Value::Sized(word) => Some(word.word().value),
         Value::Text => None,
     }
 }
 
-fn is_below(limit: u128, value: Value) -> bool
-    ensures { result ≡ table.is_below limit value }
+fn is_below(limit: u128, value: &Value) -> bool
+    ensures { result ≡ table.is_below limit value.now }
 {
     match number_in(value) {
         None => false,
@@ -70,8 +70,8 @@ fn is_below(limit: u128, value: Value) -> bool
 }
 
 // The number of a value, where it is one from 1 to the limit.
-fn amount_in(limit: u64, value: Value) -> Option<u64>
-    ensures { result ≡ table.amount_in limit value }
+fn amount_in(limit: u64, value: &Value) -> Option<u64>
+    ensures { result ≡ table.amount_in limit value.now }
 {
     match number_in(value) {
         None => None,
@@ -115,8 +115,8 @@ fn is_inverter(rows: &[CellPin], name: &[u8]) -> bool
     false
 }
 
-fn is_init(limit: Option<u128>, name: &[u8], value: Value) -> bool
-    ensures { result ≡ table.is_init limit name.now value }
+fn is_init(limit: Option<u128>, name: &[u8], value: &Value) -> bool
+    ensures { result ≡ table.is_init limit name.now value.now }
 {
     match limit {
         None => false,
@@ -124,21 +124,21 @@ fn is_init(limit: Option<u128>, name: &[u8], value: Value) -> bool
     }
 }
 
-fn is_amount(own: &[u8], limit: u64, name: &[u8], value: Value) -> bool
-    ensures { result ≡ table.is_amount own.now limit name.now value }
+fn is_amount(own: &[u8], limit: u64, name: &[u8], value: &Value) -> bool
+    ensures { result ≡ table.is_amount own.now limit name.now value.now }
 {
     name == own && amount_in(limit, value).is_some()
 }
 
-fn is_size(name: &[u8], value: Value) -> bool
-    ensures { result ≡ table.is_size name.now value }
+fn is_size(name: &[u8], value: &Value) -> bool
+    ensures { result ≡ table.is_size name.now value.now }
 {
     is_amount(b"AW", ADDRESS_LIMIT, name, value) || is_amount(b"DW", DATA_LIMIT, name, value)
 }
 
 /// Whether a cell accepts a parameter with a value.
-pub fn accepts(cell: Primitive, name: &[u8], value: Value) -> bool
-    ensures { result ≡ table.accepts cell name.now value }
+pub fn accepts(cell: Primitive, name: &[u8], value: &Value) -> bool
+    ensures { result ≡ table.accepts cell name.now value.now }
 {
     accepts_all(cell)
         || is_init(init_limit(cell), name, value)
@@ -161,6 +161,6 @@ pub fn only_amount(own: &[u8], limit: u64, params: &[(Name, Value)]) -> Option<u
     }
     match seen {
         None => None,
-        Some(value) => amount_in(limit, value),
+        Some(value) => amount_in(limit, &value),
     }
 }

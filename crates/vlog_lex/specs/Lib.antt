@@ -3,6 +3,8 @@ pub mod Closed
 pub mod Construct
 pub mod Cutting
 pub mod Numbers
+pub mod Packed
+pub mod PackedLaws
 pub mod Pieces
 pub mod Reading
 pub mod Refusals

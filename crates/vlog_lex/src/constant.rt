@@ -4,6 +4,7 @@ ghost use Rattle.vlog_lex.specs.Numbers.{is_unknown, is_underscore, value};
 ghost use Rattle.vlog_lex.specs.Reading.{IsSuffixWithin, digits_at, suffix_behind, suffix_at, capped, whole_piece, constant_piece, number_with, number_at};
 
 use crate::number::{base_of, is_underscore, is_unknown, value};
+use crate::packed::PackedWord;
 use crate::runs::{blank_length, number_length, place_length};
 use crate::token::{Flaw, Piece, TokenKind};
 use ila_base::Word;
@@ -111,7 +112,10 @@ fn constant_piece(width: u64, base: u8, digits: &[u8], count: usize) -> Piece
         return Piece::Refused(Flaw::Constant(width));
     }
     match value(base, digits) {
-        Some(all) => Piece::Token(TokenKind::Sized(cut(width as u8, all)), count),
+        Some(all) => {
+            let word = PackedWord::new(cut(width as u8, all));
+            Piece::Token(TokenKind::Sized(word), count)
+        }
         // The digits need 129 bits or more.
         None => Piece::Refused(Flaw::Constant(129)),
     }

@@ -27,7 +27,7 @@ fn take_piece(
     match piece {
         Piece::Skip(count) => Ok(count),
         Piece::Token(kind, count) => {
-            settle_last(tokens, is_mark_of(b'(', kind));
+            settle_last(tokens, is_mark_of(b'(', &kind));
             let start = at as u32;
             let end = (at + count) as u32;
             tokens.push(Token {

@@ -12,6 +12,7 @@ mod laws;
 mod lexer;
 mod marks;
 mod number;
+mod packed;
 mod piece;
 mod place;
 mod runs;
@@ -20,5 +21,6 @@ mod words;
 
 pub use laws::{one_list, one_reading, refused_for_size};
 pub use lexer::tokens;
+pub use packed::PackedWord;
 pub use place::place_behind;
 pub use token::{NetFault, NetStop, Token, TokenKind};

@@ -5,11 +5,11 @@ ghost use Rattle.vlog_lex.specs.Taking.{settled_last};
 use crate::token::{Token, TokenKind};
 
 /// Whether the token is this mark.
-pub fn is_mark_of(mark: u8, kind: TokenKind) -> bool
-    ensures { result ≡ is_mark_of mark kind }
+pub fn is_mark_of(mark: u8, kind: &TokenKind) -> bool
+    ensures { result ≡ is_mark_of mark kind.now }
 {
     match kind {
-        TokenKind::Mark(byte) => byte == mark,
+        TokenKind::Mark(byte) => *byte == mark,
         _ => false,
     }
 }
@@ -26,7 +26,7 @@ pub fn settle_last(tokens: &mut Vec<Token>, parenthesis: bool)
         return;
     }
     let last = tokens[count - 1];
-    if is_mark_of(b'#', last.kind) {
+    if is_mark_of(b'#', &last.kind) {
         tokens[count - 1] = Token {
             kind: TokenKind::Outside,
             ..last

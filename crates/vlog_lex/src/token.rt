@@ -2,7 +2,8 @@ ghost use Rattle.std.specs.Prelude.{◌≡◌};
 ghost use Rattle.vlog_lex.specs.declared.token.NetStop.TheVariants.{NoMemory};
 ghost use Rattle.vlog_lex.specs.Cutting.{refusal_of};
 
-use ila_base::{LimitKind, NetRefusal, NoMemory as MemoryFault, Place, Word};
+use crate::packed::PackedWord;
+use ila_base::{LimitKind, NetRefusal, NoMemory as MemoryFault, Place};
 use std::alloc::{AllocError, AllocFailed};
 
 /// A token of a netlist text (IEEE 1364-2005, clause 3).
@@ -28,7 +29,7 @@ pub enum TokenKind {
     /// An unsized decimal number (3.5.1), with what it stands for.
     Number(u32),
     /// A sized constant (3.5.1): its width, from 1 to 128, and its value, below two to the width.
-    Sized(Word),
+    Sized(PackedWord),
     /// A string (3.6). Its text has both quotes.
     Text,
     /// A mark of this profile's grammar: `(` `)` `[` `]` `{` `}` `,` `;` `:` `.` `=` or `#`. A `#`

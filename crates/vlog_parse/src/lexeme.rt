@@ -6,7 +6,7 @@ ghost use Rattle.vlog_parse.specs.Lexemes.{word_sort, mark_sort, sort_of, name_o
 
 use crate::sort::Sort;
 use ila_base::Word;
-use vlog_lex::{Token, TokenKind};
+use vlog_lex::{PackedWord, Token, TokenKind};
 
 /// The sort, where the word is its keyword, or a name.
 fn sort_if(word: &[u8], keyword: &[u8], sort: Sort) -> Sort
@@ -106,11 +106,11 @@ pub fn number_of(kind: TokenKind) -> u32
 }
 
 /// The word of a constant, else one without bits.
-pub fn word_of(kind: TokenKind) -> Word
+pub fn word_of(kind: TokenKind) -> PackedWord
     ensures { result ≡ word_of kind }
 {
     match kind {
         TokenKind::Sized(word) => word,
-        _ => Word { width: 0, value: 0 },
+        _ => PackedWord::new(Word { width: 0, value: 0 }),
     }
 }

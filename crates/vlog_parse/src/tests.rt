@@ -222,7 +222,10 @@ fn reads_assignments_and_gates(rt: HostRuntime) -> Result<(), Fail> {
             assert!(rt; matches!(parts.get(1), Some(Expr::Bit(_, 1, _))));
             assert!(rt; matches!(parts.get(2), Some(Expr::Part(_, 3, 2, _))));
             match parts.get(3) {
-                Some(Expr::Const(word, _)) => assert!(rt; word.width == 4 && word.value == 10),
+                Some(Expr::Const(packed, _)) => {
+                    let word = packed.word();
+                    assert!(rt; word.width == 4 && word.value == 10);
+                }
                 _ => panic!(rt; "no constant"),
             }
         }

@@ -1,7 +1,8 @@
 //! The tree of a netlist's text. Names are without the `\` of an escaped one, and each place is that
 //! of a name's or constant's first byte, if nothing else is said.
 
-use ila_base::{Items, Name, Place, Word};
+use ila_base::{Items, Name, Place};
+use vlog_lex::PackedWord;
 
 /// The modules of a text, in its order (IEEE 1364-2005, 12.1).
 #[derive(Debug, Drop)]
@@ -98,7 +99,7 @@ pub enum Value {
     /// An unsized number (3.5.1).
     Whole(u32),
     /// A sized constant (3.5.1).
-    Sized(Word),
+    Sized(PackedWord),
     /// A string (3.6), whose bytes aren't kept.
     Text,
 }
@@ -122,6 +123,6 @@ pub enum Expr {
     Bit(Name, u32, Place),
     /// The bits from the left index to the right one.
     Part(Name, u32, u32, Place),
-    Const(Word, Place),
+    Const(PackedWord, Place),
     Concat(Items<Expr>),
 }

@@ -4,7 +4,7 @@ use Rattle.elab_design.specs.Design.{word_bits}
 use Rattle.elab_unfold.specs.Places.{bit_pin}
 use Rattle.elab_unfold.proofs.PinLaws.{pushed_more}
 use Rattle.elab_unfold.proofs.RangeLaws.{length-word_bits, constant_more}
-use Rattle.elab_unfold.proofs.exprs.push_constant.Goals as goal
+use Rattle.elab_unfold.proofs.exprs.push_word.Goals as goal
 
 pub loop-k-preserved : goal.loop-k-preserved
 loop-k-preserved c =
