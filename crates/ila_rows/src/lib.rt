@@ -5,6 +5,7 @@
 #[cfg(test)]
 mod checked_cells;
 #[cfg(test)]
+mod checked_many;
 mod checked_names;
 #[cfg(test)]
 mod checked_pins;

@@ -130,3 +130,20 @@ least_three F G H a b c new inner p q r within is = least_joined F (λ f. G f �
 pub least_four : (F G H I : Found → Type 0) (a b c d new inner last : Option Found) → IsLeastFinding F a → IsLeastFinding G b → IsLeastFinding H c → IsLeastFinding I d
     → last ≡ earlier c d → inner ≡ earlier b last → new ≡ earlier a inner → IsLeastFinding (λ f. F f ⊎ (G f ⊎ (H f ⊎ I f))) new
 least_four F G H I a b c d new inner last p q r s at_last within is = least_joined F (λ f. G f ⊎ (H f ⊎ I f)) a inner new p (least_three G H I b c d inner last q r s at_last within) is
+
+-- the same where each part is joined to those before it
+pub least_in_turn : (F G H : Found → Type 0) (a b c first new : Option Found) → IsLeastFinding F a → IsLeastFinding G b → IsLeastFinding H c → first ≡ earlier a b → new ≡ earlier first c
+    → IsLeastFinding (λ f. F f ⊎ (G f ⊎ H f)) new
+least_in_turn F G H a b c first new p q r at_first is =
+    least_as (λ f. (F f ⊎ G f) ⊎ H f) (λ f. F f ⊎ (G f ⊎ H f)) new
+    (λ f h. ⊎_elim (λ x. ⊎_elim (λ y. inl y) (λ y. inr (inl y)) x) (λ x. inr (inr x)) h)
+    (λ f h. ⊎_elim (λ x. inl (inl x)) (λ x. ⊎_elim (λ y. inl (inr y)) (λ y. inr y) x) h)
+    (least_joined (λ f. F f ⊎ G f) H first c new (least_joined F G a b first p q at_first) r is)
+
+pub least_in_turns : (F G H I : Found → Type 0) (a b c d first second new : Option Found) → IsLeastFinding F a → IsLeastFinding G b → IsLeastFinding H c → IsLeastFinding I d
+    → first ≡ earlier a b → second ≡ earlier first c → new ≡ earlier second d → IsLeastFinding (λ f. F f ⊎ (G f ⊎ (H f ⊎ I f))) new
+least_in_turns F G H I a b c d first second new p q r s at_first at_second is =
+    least_as (λ f. (F f ⊎ (G f ⊎ H f)) ⊎ I f) (λ f. F f ⊎ (G f ⊎ (H f ⊎ I f))) new
+    (λ f h. ⊎_elim (λ x. ⊎_elim (λ y. inl y) (λ y. inr (⊎_elim (λ z. inl z) (λ z. inr (inl z)) y)) x) (λ x. inr (inr (inr x))) h)
+    (λ f h. ⊎_elim (λ x. inl (inl x)) (λ x. ⊎_elim (λ y. inl (inr (inl y))) (λ y. ⊎_elim (λ z. inl (inr (inr z))) (λ z. inr z) y) x) h)
+    (least_joined (λ f. F f ⊎ (G f ⊎ H f)) I second d new (least_in_turn F G H a b c first second p q r at_first at_second) s is)

@@ -1,12 +1,13 @@
 -- Which names were seen.
-use Rattle.std.proofs.Common.{◌≡◌, ℕ, ◌+◌, ◌<◌, Bool, true, false, cond, ◌||◌, List, [], ◌∷◌, length, take, get_or, Option, Some, None, is_some, IfSome, ◌≤◌, refl, ap, sym, ◌∙◌}
+use Rattle.std.proofs.Common.{◌≡◌, ℕ, ◌+◌, ◌<◌, Bool, true, false, cond, ◌||◌, List, [], ◌∷◌, length, take, get_or, Option, Some, None, is_some, IfSome, ◌≤◌, refl, ap, sym, subst, ◌∙◌}
 use Rattle.std.specs.Borrow.{Bor}
 use Rattle.std.specs.Option.{option_or, option_copied}
 use Rattle.std.proofs.lemmas.List.{take_all}
 use Rattle.vlog_parse.specs.declared.tree.Expr.{Expr}
 use Rattle.vlog_parse.specs.Leaves.{leaves}
 use Rattle.std.specs.Str.{bytes_eq}
-use Rattle.vlog_check.specs.Kinds.{IsSeen}
+use Rattle.vlog_check.specs.declared.seen.Seen.{Seen}
+use Rattle.vlog_check.specs.Kinds.{IsSeen, AreSeen}
 use Rattle.vlog_check.specs.Scope.{value_of}
 use Rattle.vlog_check.proofs.LeastLaws.{take_step}
 use Rattle.vlog_check.proofs.TableLaws.{lookup-append}
@@ -38,3 +39,10 @@ seen_all xs i table end seen name = seen name ∙ ap (λ es. is_some (value_of e
 pub few_link : (own : Option Expr) (e : Option (Bor Expr)) → option_copied e ≡ own → ((x : Expr) → own ≡ Some x → length (leaves x) ≤ 67108864) → IfSome e (λ x. length (leaves x.now) ≤ 67108864)
 few_link own None is few = tt
 few_link own (Some x) is few = few x.now (sym is)
+
+-- a name behind the others, however they are kept
+pub seen_more : {V : Type 0} (ys xs : List (List ℕ × V)) (i : ℕ) (old new : Seen V) → ys ≡ xs → (AreSeen old (take i ys) → AreSeen new (take (i + 1) ys)) → AreSeen old (take i xs) → AreSeen new (take (i + 1) xs)
+seen_more ys xs i old new same more seen = subst (λ zs. AreSeen new (take (i + 1) zs)) same (more (subst (λ zs. AreSeen old (take i zs)) (sym same) seen))
+
+pub are_all : {V : Type 0} (xs : List (List ℕ × V)) (i : ℕ) (seen : Seen V) → length xs ≤ i → AreSeen seen (take i xs) → AreSeen seen xs
+are_all xs i seen end are = subst (AreSeen seen) (take_all i xs end) are

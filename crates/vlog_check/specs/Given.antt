@@ -4,11 +4,11 @@ use Rattle.vlog_parse.specs.declared.tree.Conns.{Conns}
 use Rattle.vlog_parse.specs.declared.tree.Conns.TheVariants.{ByName, ByPlace}
 use Rattle.vlog_check.specs.declared.missing.Given.{Given}
 use Rattle.vlog_check.specs.declared.missing.Given.TheVariants as given
-use Rattle.vlog_check.specs.Kinds.{IsSeen}
+use Rattle.vlog_check.specs.Kinds.{AreSeen}
 
--- the table has the names of the connections, or the number is theirs
+-- the names are those of the connections, or the number is theirs
 abbrev pub IsGiven : Conns → Given → Type 0
-IsGiven (ByName conns) (given.ByName seen) = IsSeen seen conns
+IsGiven (ByName conns) (given.ByName seen) = AreSeen seen conns
 IsGiven (ByName conns) (given.ByPlace count) = ⊥
 IsGiven (ByPlace conns) (given.ByName seen) = ⊥
 IsGiven (ByPlace conns) (given.ByPlace count) = count ≡ length conns

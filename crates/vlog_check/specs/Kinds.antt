@@ -4,6 +4,8 @@ use Rattle.vlog_parse.specs.declared.tree.Inst.{Inst}
 use Rattle.vlog_parse.specs.declared.tree.Expr.{Expr}
 use Rattle.vlog_parse.specs.Leaves.{leaves}
 use Rattle.vlog_check.specs.declared.kind.Kind.{Kind}
+use Rattle.vlog_check.specs.declared.seen.Seen.{Seen}
+use Rattle.vlog_check.specs.declared.seen.Seen.TheVariants.{Few, Many}
 use Rattle.vlog_check.specs.declared.kind.Kind.TheVariants.{Cell, Module}
 use Rattle.vlog_check.specs.declared.primitive.Size.TheVariants.{Address, Data}
 use Rattle.vlog_check.specs.Cells.{bits_of}
@@ -22,6 +24,11 @@ IsKind i (Module names) = IsNames names.now
 -- the table knows the names of these
 abbrev pub IsSeen : {V : Type 0} → List (List ℕ × Bool) → List (List ℕ × V) → Type 0
 IsSeen table given = (name : List ℕ) → is_some (scope.value_of table name) ≡ is_some (scope.value_of given name)
+
+-- these are kept themselves, or a table knows their names
+abbrev pub AreSeen : {V : Type 0} → Seen V → List (List ℕ × V) → Type 0
+AreSeen (Few kept) given = kept.now ≡ given
+AreSeen (Many table) given = IsSeen table given
 
 -- each of the expressions that pins are connected to has no more leaves than a text has bytes
 abbrev pub AreFewNamed : List (List ℕ × Option Expr) → Type 0

@@ -13,10 +13,9 @@ ghost use Rattle.vlog_check.specs.Names.{IsNames, IsRead};
 ghost use Rattle.vlog_check.specs.Scope.{value_of, has_constant};
 
 use crate::expr::{Reading, read};
-use crate::found::{Detail, Found, earlier};
+use crate::found::{Detail, Found, keep_earlier};
 use crate::kind::{Kind, Pin, goes_in, goes_out, pin_of};
 use crate::names::Names;
-use crate::table::Table;
 use crate::width::{find_width, pin_finding};
 use ila_base::{Name, NetRefusal, NoMemory, Place};
 use std::alloc::Global;
@@ -91,7 +90,9 @@ pub fn find_connected(pin: Option<Pin>, reading: Reading) -> Option<Found>
         None => reading.found,
         Some(pin) => {
             let width = find_width(pin.width, &reading);
-            earlier(reading.found, width)
+            let mut best = reading.found;
+            keep_earlier(&mut best, width);
+            best
         }
     }
 }
@@ -157,7 +158,9 @@ pub fn find_connection(
     let (fixed, connected) = read_connected(alloc, names, pin, e)?;
     let bad = is_bad_pin(pin, link.twice, fixed);
     let detail = Detail::Connection(link.number as u64);
-    let bad = find_pin(alloc, bad, link.place, detail, link.name.bytes())?;
+    let mut best = find_pin(alloc, bad, link.place, detail, link.name.bytes())?;
     let open = find_open(alloc, open, link.place, detail, link.name)?;
-    Ok(earlier(bad, earlier(open, connected)))
+    keep_earlier(&mut best, open);
+    keep_earlier(&mut best, connected);
+    Ok(best)
 }

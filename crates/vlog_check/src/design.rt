@@ -15,7 +15,7 @@ ghost use Rattle.vlog_check.specs.Kinds.{IsKind, kind_seen};
 ghost use Rattle.vlog_check.specs.Names.{IsNames, AreFew};
 ghost use Rattle.vlog_check.specs.Scope as look;
 
-use crate::found::{Detail, Found, earlier};
+use crate::found::{Detail, Found, earlier, keep_earlier};
 use crate::kind::{Kind, sized_cell};
 use crate::modules::{Scope, read_scope};
 use crate::names::Names;
@@ -127,6 +127,24 @@ fn find_outside(alloc: Global, names: &Names, item: &Item) -> Result<Option<Foun
     }
 }
 
+// What is found on an item where the names of all are known.
+fn find_in_item(
+    alloc: Global,
+    scope: &Scope,
+    names: &Names,
+    item: &Item,
+) -> Result<Option<Found>, NoMemory>
+    requires scope { IsScope scope.now.tree.now scope.now }
+    requires names { IsNames names.now }
+    requires few { AreFew (item_exprs item.now) }
+    ensures { IfOk result (λ found. (k : ℕ) → IsLeastFinding (FindsLateItem scope.now.tree.now names.now.module.now k item.now) found) }
+{
+    let mut best = find_outside(alloc, names, item)?;
+    let within = find_within(alloc, scope, names, item)?;
+    keep_earlier(&mut best, within);
+    Ok(best)
+}
+
 // What is found on the items of a module where the names of all are known.
 fn find_in_items(alloc: Global, scope: &Scope, names: &Names) -> Result<Option<Found>, NoMemory>
     requires scope { IsScope scope.now.tree.now scope.now }
@@ -136,9 +154,8 @@ fn find_in_items(alloc: Global, scope: &Scope, names: &Names) -> Result<Option<F
 {
     let mut best = None;
     for item in names.module.items.as_slice() {
-        let outside = find_outside(alloc, names, item)?;
-        let within = find_within(alloc, scope, names, item)?;
-        best = earlier(best, earlier(outside, within));
+        let found = find_in_item(alloc, scope, names, item)?;
+        keep_earlier(&mut best, found);
     }
     Ok(best)
 }
@@ -169,7 +186,7 @@ fn find_in_header(alloc: Global, names: &Names) -> Result<Option<Found>, NoMemor
     let mut best = None;
     for (k, name) in names.module.ports.as_slice().iter().enumerate() {
         let found = find_no_direction(alloc, names, k, name)?;
-        best = earlier(best, found);
+        keep_earlier(&mut best, found);
     }
     Ok(best)
 }
@@ -195,7 +212,7 @@ fn find_in_modules(alloc: Global, scope: &Scope) -> Result<Option<Found>, NoMemo
     let mut best = None;
     for names in scope.names.as_slice() {
         let found = find_late(alloc, scope, names)?;
-        best = earlier(best, found);
+        keep_earlier(&mut best, found);
     }
     Ok(best)
 }

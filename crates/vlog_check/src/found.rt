@@ -87,6 +87,16 @@ fn number_of(refusal: &NetRefusal) -> u64
     }
 }
 
+/// Keeps the first of two findings. Where there is no second one nothing is moved.
+pub fn keep_earlier(best: &mut Option<Found>, found: Option<Found>)
+    ensures { best.new ≡ earlier best.old found }
+{
+    if found.is_some() {
+        let first = best.take();
+        *best = earlier(first, found);
+    }
+}
+
 /// The first of two findings.
 pub fn earlier(best: Option<Found>, found: Option<Found>) -> Option<Found>
     ensures { result ≡ earlier best found }

@@ -3,17 +3,17 @@ ghost use Rattle.std.specs.Option.{option_copied};
 ghost use Rattle.vlog_parse.specs.Leaves.{leaves};
 ghost use Rattle.vlog_check.specs.Found.{IsLeastFinding, FindsAmong};
 ghost use Rattle.vlog_check.specs.FindingPins as finds;
-ghost use Rattle.vlog_check.specs.Kinds.{IsKind, IsSeen, AreFewNamed, kind_seen};
+ghost use Rattle.vlog_check.specs.Kinds.{IsKind, AreSeen, AreFewNamed, kind_seen};
 ghost use Rattle.vlog_check.specs.Names.{IsNames, AreFew};
 ghost use Rattle.vlog_check.specs.Scope.{value_of};
 
 use crate::connect::{Link, find_connected, find_connection, find_pin};
 use crate::expr::read;
-use crate::found::{Detail, Found, earlier};
+use crate::found::{Detail, Found, keep_earlier};
 use crate::kind::{Kind, pin_of};
 use crate::names::Names;
 use crate::params::accepts;
-use crate::table::Table;
+use crate::seen::Seen;
 use ila_base::{Name, NoMemory};
 use std::alloc::Global;
 use vlog_parse::{Expr, Inst, Value};
@@ -31,16 +31,17 @@ fn is_bad_parameter(kind: &Kind, twice: bool, param: &(Name, Value)) -> bool
 pub fn find_in_params(alloc: Global, i: &Inst, kind: &Kind) -> Result<Option<Found>, NoMemory>
     ensures { IfOk result (IsLeastFinding (FindsAmong (finds.FindsParameter i.now (kind_seen kind.now)) i.now.params)) }
 {
-    let mut seen = Table::new(alloc);
+    let given = i.params.as_slice();
+    let mut seen = Seen::none_of(alloc, given);
     let mut best = None;
-    for (k, param) in i.params.as_slice().iter().enumerate() {
+    for (k, param) in given.iter().enumerate() {
         let name = param.0.bytes();
-        let twice = seen.get(name).is_some();
+        let twice = seen.has(name);
         let bad = is_bad_parameter(kind, twice, param);
         let detail = Detail::Parameter(k as u64);
         let found = find_pin(alloc, bad, i.place, detail, name)?;
-        best = earlier(best, found);
-        seen.put(name, true)?;
+        keep_earlier(&mut best, found);
+        seen = seen.with(given, k)?;
     }
     Ok(best)
 }
@@ -52,18 +53,18 @@ pub fn find_named<'a>(
     i: &Inst,
     kind: &Kind,
     given: &'a [(Name, Option<Expr>)],
-) -> Result<(Table<'a, bool>, Option<Found>), NoMemory>
+) -> Result<(Seen<'a, Option<Expr>>, Option<Found>), NoMemory>
     requires names { IsNames names.now }
     requires kind { IsKind i.now kind.now }
     requires few { AreFewNamed given.now }
-    ensures seen { IfOk result (λ r. IsSeen r.0 given.now) }
+    ensures seen { IfOk result (λ r. AreSeen r.0 given.now) }
     ensures least { IfOk result (λ r. IsLeastFinding (FindsAmong (finds.FindsNamed names.now.module.now i.now (kind_seen kind.now) given.now) given.now) r.1) }
 {
-    let mut seen = Table::new(alloc);
+    let mut seen = Seen::none_of(alloc, given);
     let mut best = None;
     for (k, conn) in given.iter().enumerate() {
         let name = conn.0.bytes();
-        let twice = seen.get(name).is_some();
+        let twice = seen.has(name);
         let link = Link {
             place: i.place,
             number: k,
@@ -72,8 +73,8 @@ pub fn find_named<'a>(
         };
         let pin = pin_of(kind, name);
         let found = find_connection(alloc, names, link, pin, conn.1.as_ref())?;
-        best = earlier(best, found);
-        seen.put(name, true)?;
+        keep_earlier(&mut best, found);
+        seen = seen.with(given, k)?;
     }
     Ok((seen, best))
 }
@@ -162,8 +163,9 @@ pub fn find_in_positions(
     let mut best = None;
     for (k, e) in given.iter().enumerate() {
         let found = find_placed(alloc, names, i, kind, k, e)?;
-        best = earlier(best, found);
+        keep_earlier(&mut best, found);
     }
     let positions = find_positions(alloc, i, kind, given)?;
-    Ok(earlier(best, positions))
+    keep_earlier(&mut best, positions);
+    Ok(best)
 }

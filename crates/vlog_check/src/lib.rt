@@ -16,6 +16,7 @@ mod modules;
 mod names;
 mod params;
 mod primitive;
+mod seen;
 mod spell;
 mod table;
 mod whole;

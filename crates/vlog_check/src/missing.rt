@@ -9,19 +9,19 @@ ghost use Rattle.vlog_check.specs.Names.{IsNames};
 ghost use Rattle.vlog_check.specs.Scope as scope;
 
 use crate::connect::find_open_named;
-use crate::found::{Detail, Found, earlier};
+use crate::found::{Detail, Found, keep_earlier};
 use crate::kind::{Kind, goes_in, pin_of};
 use crate::names::Names;
 use crate::primitive::{Primitive, pins};
-use crate::table::Table;
+use crate::seen::Seen;
 use ila_base::NoMemory;
 use std::alloc::Global;
-use vlog_parse::Inst;
+use vlog_parse::{Expr, Inst};
 
 /// Which pins of an instance have a connection: those with these names, or so many in order.
 #[derive(Drop)]
 pub enum Given<'a> {
-    ByName(Table<'a, bool>),
+    ByName(Seen<'a, Option<Expr>>),
     ByPlace(usize),
 }
 
@@ -29,7 +29,7 @@ fn is_given(given: &Given, k: usize, name: &[u8]) -> bool
     ensures { (conns : ConnsOf) → IsGiven conns given.now → result ≡ scope.is_given conns k name.now }
 {
     match given {
-        Given::ByName(seen) => seen.get(name).is_some(),
+        Given::ByName(seen) => seen.has(name),
         Given::ByPlace(count) => k < *count,
     }
 }
@@ -47,7 +47,7 @@ fn find_missing_pin(
     requires given { IsGiven i.now.conns given.now }
     ensures { IfOk result (λ found. (cell : PrimitiveOf) → kind_seen kind.now ≡ scope.OfCell cell → IsLeastFinding (finds.FindsMissing i.now (scope.OfCell cell) k name.now) found) }
 {
-    let missing = goes_in(pin_of(kind, name)) && !is_given(given, k, name);
+    let missing = !is_given(given, k, name) && goes_in(pin_of(kind, name));
     let detail = Detail::NoPin(k as u64);
     let found = find_open_named(alloc, missing, i.place, detail, name)?;
     Ok(found)
@@ -69,7 +69,7 @@ fn find_missing_of_cell(
     let mut best = None;
     for (k, pin) in pins(cell).iter().enumerate() {
         let found = find_missing_pin(alloc, i, kind, given, k, pin.name)?;
-        best = earlier(best, found);
+        keep_earlier(&mut best, found);
     }
     Ok(best)
 }

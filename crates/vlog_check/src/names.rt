@@ -10,7 +10,7 @@ ghost use Rattle.vlog_check.specs.Names.{IsNames, IsNumbering, IsPast, AreInputs
 ghost use Rattle.vlog_check.specs.Scope.{value_of, directed as directed_of, is_input};
 ghost use Rattle.std.specs.Option.{option_map, option_map_or};
 
-use crate::found::{Detail, Found, earlier};
+use crate::found::{Detail, Found, earlier, keep_earlier};
 use crate::table::Table;
 use ila_base::{Name, NetRefusal, NoMemory, Place};
 use std::alloc::Global;
@@ -204,7 +204,7 @@ fn read_header<'a>(
     let mut best = None;
     for (k, name) in m.ports.as_slice().iter().enumerate() {
         let found = second_port(alloc, m, &numbers, k, name)?;
-        best = earlier(best, found);
+        keep_earlier(&mut best, found);
         numbers.put(name.bytes(), k)?;
     }
     Ok((numbers, best))
@@ -262,7 +262,7 @@ fn read_items<'a>(
     let mut best = None;
     for item in m.items.as_slice() {
         let found = second_item(alloc, ports, &past, item)?;
-        best = earlier(best, found);
+        keep_earlier(&mut best, found);
         past.add(item)?;
     }
     Ok((past, best))

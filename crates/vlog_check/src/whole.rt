@@ -12,12 +12,13 @@ ghost use Rattle.vlog_check.specs.Scope.{value_of};
 
 use crate::connect::{find_connected, find_pin, read_connected};
 use crate::expr::read;
-use crate::found::{Detail, Found, earlier};
+use crate::found::{Detail, Found, earlier, keep_earlier};
 use crate::inst::{find_in_params, find_in_positions, find_named};
 use crate::kind::Kind;
 use crate::missing::{Given, find_missing};
 use crate::names::Names;
 use crate::params::is_memory;
+use crate::seen::has_name;
 use ila_base::{Name, NetRefusal, NoMemory};
 use std::alloc::Global;
 use vlog_parse::{Conns, Expr, Inst, Value};
@@ -35,7 +36,7 @@ fn find_in_named_exprs(
     let mut best = None;
     for conn in given {
         let reading = read_connected(alloc, names, None, conn.1.as_ref())?;
-        best = earlier(best, reading.1);
+        keep_earlier(&mut best, reading.1);
     }
     Ok(best)
 }
@@ -53,7 +54,7 @@ fn find_in_placed_exprs(
     let mut best = None;
     for e in given {
         let found = find_connected(None, read(alloc, names, e)?);
-        best = earlier(best, found);
+        keep_earlier(&mut best, found);
     }
     Ok(best)
 }
@@ -93,23 +94,12 @@ pub fn find_in_unknown(alloc: Global, names: &Names, i: &Inst) -> Result<Option<
     Ok(earlier(Some(unknown), exprs))
 }
 
-fn has_param(params: &[(Name, Value)], name: &[u8]) -> bool
-    ensures { result ≡ is_some (value_of params.now name.now) }
-{
-    for param in params {
-        if name == param.0.bytes() {
-            return true;
-        }
-    }
-    false
-}
-
 fn is_lacking(kind: &Kind, params: &[(Name, Value)], name: &[u8]) -> bool
     ensures { result ≡ finds.is_lacking (kind_seen kind.now) params.now name.now }
 {
     match kind {
         Kind::Module(_) => false,
-        Kind::Cell(sized) => is_memory(sized.cell) && !has_param(params, name),
+        Kind::Cell(sized) => is_memory(sized.cell) && !has_name(params, name),
     }
 }
 
@@ -119,10 +109,11 @@ fn find_lacking(alloc: Global, i: &Inst, kind: &Kind) -> Result<Option<Found>, N
 {
     let params = i.params.as_slice();
     let address = is_lacking(kind, params, b"AW");
-    let first = find_pin(alloc, address, i.place, Detail::NoParameter(0), b"AW")?;
+    let mut first = find_pin(alloc, address, i.place, Detail::NoParameter(0), b"AW")?;
     let data = is_lacking(kind, params, b"DW");
     let second = find_pin(alloc, data, i.place, Detail::NoParameter(1), b"DW")?;
-    Ok(earlier(first, second))
+    keep_earlier(&mut first, second);
+    Ok(first)
 }
 
 // What is found on the connections of an instance, and which pins they give.
@@ -162,10 +153,12 @@ pub fn find_in_kind(
     requires few { AreFew (connected_exprs i.now.conns) }
     ensures { IfOk result (IsLeastFinding (finds.FindsInKind names.now.module.now i.now (Some (kind_seen kind.now)))) }
 {
-    let params = find_in_params(alloc, i, kind)?;
+    let mut best = find_in_params(alloc, i, kind)?;
     let (given, conns) = find_in_conns(alloc, names, i, kind)?;
+    keep_earlier(&mut best, conns);
     let lacking = find_lacking(alloc, i, kind)?;
+    keep_earlier(&mut best, lacking);
     let missing = find_missing(alloc, i, kind, &given)?;
-    let last = earlier(lacking, missing);
-    Ok(earlier(params, earlier(conns, last)))
+    keep_earlier(&mut best, missing);
+    Ok(best)
 }

@@ -12,6 +12,6 @@ returns-in-None c m e is =
 
 pub returns-in-Some : goal.returns-in-Some
 returns-in-Some c m e is =
-    subst (λ p. IsLeastFinding (FindsConnected m p (Some e)) c.earlier.result) (sym c.in-Some.is)
-    (least_joined (FindsUndeclared m e) (FindsWidth m c.in-Some.pin.width e) c.args.reading.found c.find_width-width.result c.earlier.result
-    (undeclared_is m e c.args.reading is) (c.find_width-width.ensures m e is) c.earlier.ensures)
+    subst (λ p. IsLeastFinding (FindsConnected m p (Some e)) c.keep_earlier.new.best) (sym c.in-Some.is)
+    (least_joined (FindsUndeclared m e) (FindsWidth m c.in-Some.pin.width e) c.args.reading.found c.find_width-width.result c.keep_earlier.new.best
+    (undeclared_is m e c.args.reading is) (c.find_width-width.ensures m e is) c.keep_earlier.ensures)

@@ -23,7 +23,7 @@ loop-names-preserved c =
     let s = c.args.scope.now in
     let k = c.loop-names.names-index in
     let at = at_index c.as_slice-names-items.result.now s.names.items k c.names-item.result c.as_slice-names-items.ensures.value c.loop-names-test.true c.names-item.is in
-    subst (IsLeastFinding (FindsBelow (FindsLate s.tree.now) s.tree.now.modules (k + 1))) (sym c.earlier-best.ensures)
+    subst (IsLeastFinding (FindsBelow (FindsLate s.tree.now) s.tree.now.modules (k + 1))) (sym c.keep_earlier.ensures)
     (least_more (FindsLate s.tree.now) s.tree.now.modules k c.names-item.result.module.now c.loop-names.best c.in_ok-found.found (c.requires.scope.tables.own k c.names-item.result at) c.loop-names.invariant (c.in_ok-found.ensures k))
 
 pub returns : goal.returns

@@ -20,7 +20,7 @@ loop-k-preserved c =
     let ys = c.pins-pin-items.result.now in
     let own = get_or ys c.loop-k.k none in
     let at = pin_at ys (pins c.args.cell) c.loop-k.k own c.pins-pin-items.ensures (slice_get-get_or ys c.loop-k.k none c.loop-k-test.true) in
-    subst (IsLeastFinding (FindsBelow (FindsMissing c.args.i.now (OfCell c.args.cell)) (pin_names (OfCell c.args.cell)) (c.loop-k.k + 1))) (sym c.earlier-best.ensures)
+    subst (IsLeastFinding (FindsBelow (FindsMissing c.args.i.now (OfCell c.args.cell)) (pin_names (OfCell c.args.cell)) (c.loop-k.k + 1))) (sym c.keep_earlier.ensures)
     (least_more (FindsMissing c.args.i.now (OfCell c.args.cell)) (pin_names (OfCell c.args.cell)) c.loop-k.k own.name.now c.loop-k.best c.in_ok-found.found at c.loop-k.invariant (c.in_ok-found.ensures c.args.cell c.requires.cell))
 
 pub returns : goal.returns

@@ -16,7 +16,7 @@ loop-k-preserved c =
     let m = c.args.m.now in
     let ys = c.as_slice-name-items.result.now in (
       numbering_step ys m.ports c.loop-k.k c.bytes.result.now c.name-item.result c.loop-k.numbers c.put.new.self c.as_slice-name-items.ensures c.loop-k-test.true c.name-item.is c.bytes.ensures c.loop-k.invariant.0 c.in_ok-put.ensures,
-      least_step (FindsSecondPort m) ys m.ports c.loop-k.k c.name-item.result c.loop-k.best c.in_ok-found.found c.earlier-best.result c.as_slice-name-items.ensures c.loop-k-test.true c.name-item.is c.loop-k.invariant.1 c.in_ok-found.ensures c.earlier-best.ensures,
+      least_step (FindsSecondPort m) ys m.ports c.loop-k.k c.name-item.result c.loop-k.best c.in_ok-found.found c.keep_earlier.new.best c.as_slice-name-items.ensures c.loop-k-test.true c.name-item.is c.loop-k.invariant.1 c.in_ok-found.ensures c.keep_earlier.ensures,
     )
 
 pub returns : goal.returns

@@ -14,8 +14,8 @@ loop-item-preserved c =
     let ys = c.as_slice-item-items.result.now in
     let i = c.loop-item.item-index in (
       subst (IsPast c.add.new.self) (take_step ys m.items i c.item-item.result c.as_slice-item-items.ensures c.loop-item-test.true c.item-item.is) (c.in_ok-add.ensures (take i m.items) c.loop-item.invariant.0),
-      least_step (FindsSecond m) ys m.items i c.item-item.result c.loop-item.best c.in_ok-found.found c.earlier-best.result c.as_slice-item-items.ensures c.loop-item-test.true c.item-item.is
-          c.loop-item.invariant.1 (c.in_ok-found.ensures m i c.requires c.loop-item.invariant.0) c.earlier-best.ensures,
+      least_step (FindsSecond m) ys m.items i c.item-item.result c.loop-item.best c.in_ok-found.found c.keep_earlier.new.best c.as_slice-item-items.ensures c.loop-item-test.true c.item-item.is
+          c.loop-item.invariant.1 (c.in_ok-found.ensures m i c.requires c.loop-item.invariant.0) c.keep_earlier.ensures,
     )
 
 pub returns : goal.returns

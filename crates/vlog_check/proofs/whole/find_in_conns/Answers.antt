@@ -3,7 +3,7 @@ use Rattle.vlog_check.specs.declared.missing.Given.TheVariants as given
 use Rattle.vlog_check.specs.Found.{IsLeastFinding, FindsAmong}
 use Rattle.vlog_check.specs.FindingPins.{FindsInConns, FindsNamed, FindsPlaced, FindsPositions, port_at}
 use Rattle.vlog_check.specs.Given.{IsGiven}
-use Rattle.vlog_check.specs.Kinds.{IsSeen, kind_seen}
+use Rattle.vlog_check.specs.Kinds.{AreSeen, kind_seen}
 use Rattle.vlog_check.proofs.FewLaws.{few_named, few_placed}
 use Rattle.vlog_check.proofs.whole.find_in_conns.Goals as goal
 
@@ -20,7 +20,7 @@ returns-in_ok-seen-in-ByName c =
     let kind = kind_seen c.args.kind.now in
     let r = c.in_ok-seen-in-ByName in
     record {
-      given = subst (λ cs. IsGiven cs (given.ByName r.seen)) (sym c.in-ByName.is) (subst (IsSeen r.seen) c.as_slice.ensures r.ensures.seen);
+      given = subst (λ cs. IsGiven cs (given.ByName r.seen)) (sym c.in-ByName.is) (subst (AreSeen r.seen) c.as_slice.ensures r.ensures.seen);
       least = subst (λ cs. IsLeastFinding (FindsInConns m i kind cs) r.found) (sym c.in-ByName.is) (subst (λ xs. IsLeastFinding (FindsAmong (FindsNamed m i kind xs) xs) r.found) c.as_slice.ensures r.ensures.least);
     }
 

@@ -20,8 +20,8 @@ pub loop-conn-preserved : goal.loop-conn-preserved
 loop-conn-preserved c =
     let m = c.args.names.now.module.now in
     let given = c.args.given.now in
-    least_step (λ k x g. FindsConnected m None x.1 g) given given c.loop-conn.conn-index c.conn-item.result c.loop-conn.best c.in_ok-reading.reading.1 c.earlier-best.result refl c.loop-conn-test.true c.conn-item.is c.loop-conn.invariant
-    (subst (λ o. IsLeastFinding (FindsConnected m None o) c.in_ok-reading.reading.1) c.as_ref.ensures.value c.in_ok-reading.ensures.least) c.earlier-best.ensures
+    least_step (λ k x g. FindsConnected m None x.1 g) given given c.loop-conn.conn-index c.conn-item.result c.loop-conn.best c.in_ok-reading.reading.1 c.keep_earlier.new.best refl c.loop-conn-test.true c.conn-item.is c.loop-conn.invariant
+    (subst (λ o. IsLeastFinding (FindsConnected m None o) c.in_ok-reading.reading.1) c.as_ref.ensures.value c.in_ok-reading.ensures.least) c.keep_earlier.ensures
 
 pub returns : goal.returns
 returns c = least_end (λ k x g. FindsConnected c.args.names.now.module.now None x.1 g) c.args.given.now c.args.given.now c.loop-conn.conn-index c.loop-conn.best refl c.loop-conn-test.false c.loop-conn.invariant

@@ -18,8 +18,8 @@ pub loop-e-preserved : goal.loop-e-preserved
 loop-e-preserved c =
     let m = c.args.names.now.module.now in
     let given = c.args.given.now in
-    least_step (λ k e g. FindsUndeclared m e g) given given c.loop-e.e-index c.e-item.result c.loop-e.best c.find_connected-found.result c.earlier-best.result refl c.loop-e-test.true c.e-item.is c.loop-e.invariant
-    (c.find_connected-found.ensures m c.e-item.result c.in_ok-read.ensures) c.earlier-best.ensures
+    least_step (λ k e g. FindsUndeclared m e g) given given c.loop-e.e-index c.e-item.result c.loop-e.best c.find_connected-found.result c.keep_earlier.new.best refl c.loop-e-test.true c.e-item.is c.loop-e.invariant
+    (c.find_connected-found.ensures m c.e-item.result c.in_ok-read.ensures) c.keep_earlier.ensures
 
 pub returns : goal.returns
 returns c = least_end (λ k e g. FindsUndeclared c.args.names.now.module.now e g) c.args.given.now c.args.given.now c.loop-e.e-index c.loop-e.best refl c.loop-e-test.false c.loop-e.invariant
