@@ -6,6 +6,7 @@
 mod checked_cells;
 #[cfg(test)]
 mod checked_many;
+#[cfg(test)]
 mod checked_names;
 #[cfg(test)]
 mod checked_pins;
