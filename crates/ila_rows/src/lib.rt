@@ -25,6 +25,8 @@ mod marked;
 #[cfg(test)]
 mod outcome;
 #[cfg(test)]
+mod packed;
+#[cfg(test)]
 mod prefixes;
 #[cfg(test)]
 mod rows;
