@@ -81,8 +81,8 @@ fn cells() -> &'static [(&'static [u8], Primitive)]
     ]
 }
 
-/// The cell of a name.
-pub fn cell_of(name: &[u8]) -> Option<Primitive>
+// The cell of a name, by the whole list.
+fn listed_cell(name: &[u8]) -> Option<Primitive>
     ensures { result ≡ cell_of name.now }
 {
     for cell in cells() {
@@ -91,6 +91,25 @@ pub fn cell_of(name: &[u8]) -> Option<Primitive>
         }
     }
     None
+}
+
+/// The cell of a name. Most names are those of LUTs and of registers, so these are told by their bytes alone.
+pub fn cell_of(name: &[u8]) -> Option<Primitive>
+    ensures { result ≡ cell_of name.now }
+{
+    match name {
+        b"LUT1" => Some(Primitive::Lut1),
+        b"LUT2" => Some(Primitive::Lut2),
+        b"LUT3" => Some(Primitive::Lut3),
+        b"LUT4" => Some(Primitive::Lut4),
+        b"LUT5" => Some(Primitive::Lut5),
+        b"LUT6" => Some(Primitive::Lut6),
+        b"FDRE" => Some(Primitive::Fdre),
+        b"FDSE" => Some(Primitive::Fdse),
+        b"FDCE" => Some(Primitive::Fdce),
+        b"FDPE" => Some(Primitive::Fdpe),
+        _ => listed_cell(name),
+    }
 }
 
 const I0: CellPin = CellPin {

@@ -42,7 +42,15 @@ IsWithinLimits before (t ∷ ts) = (excess before t ≡ None) × IsWithinLimits 
 
 -- what a scan sees of a token
 abbrev pub seen_of : Lexeme → Seen
-seen_of t = record { sort = t.sort; number = t.number; place = t.place }
+seen_of t = record {
+  opens = is LeftBrace t;
+  closes = is RightBrace t;
+  before_index = opens_index t;
+  large = is Number t && nat_lt 1048575 t.number;
+  outside = is Outside t;
+  number = t.number;
+  place = t.place;
+}
 
 -- one or the other, if there is one
 abbrev pub or_later : Option Excess → Option Excess → Option Excess

@@ -41,7 +41,8 @@ fn word_sort(word: &[u8]) -> Sort
     }
 }
 
-fn mark_sort(mark: u8) -> Sort
+/// What a mark is.
+pub fn mark_sort(mark: u8) -> Sort
     ensures { result ≡ mark_sort mark }
 {
     match mark {

@@ -1,12 +1,12 @@
-ghost use Rattle.std.specs.Prelude.{◌≡◌, ◌≤◌, true, false, Some, None, MatchResult};
-ghost use Rattle.vlog_parse.specs.declared.sort.Sort.TheVariants.{Outside};
-ghost use Rattle.vlog_parse.specs.Sorts.{same};
-ghost use Rattle.vlog_parse.specs.Lexemes.{Lexeme};
+ghost use Rattle.std.specs.Prelude.{◌≡◌, ◌≤◌, ℕ, List, [], true, false, Some, None, MatchResult};
+ghost use Rattle.vlog_parse.specs.Lexemes.{Lexeme, lexeme, sort_of};
 ghost use Rattle.vlog_parse.specs.Limits.{open_behind, opens_index, excess_of, seen_of, first_excess, AreClean};
 
+use crate::lexeme::{mark_sort, number_of};
 use crate::parser::Parser;
 use crate::sort::Sort;
 use ila_base::{LimitKind, Place};
+use vlog_lex::{Token, TokenKind};
 
 /// How many braces may be open at once.
 const MOST_BRACES: u32 = 32;
@@ -25,9 +25,50 @@ pub struct Excess {
 /// What counts of a token.
 #[derive(Clone, Copy, Debug)]
 pub struct Seen {
-    pub sort: Sort,
+    /// Whether it opens a brace.
+    pub opens: bool,
+    /// Whether it closes one.
+    pub closes: bool,
+    /// Whether an index may follow it.
+    pub before_index: bool,
+    /// Whether it is a number that is too large for an index.
+    pub large: bool,
+    /// Whether it stands for no construct of the profile.
+    pub outside: bool,
     pub number: u32,
     pub place: Place,
+}
+
+// What a token of this kind is, without its text, where every identifier is taken for a name.
+fn kind_sort(kind: TokenKind) -> Sort
+    ensures { result ≡ sort_of kind [] }
+{
+    match kind {
+        TokenKind::Ident => Sort::Name,
+        TokenKind::Escaped => Sort::Name,
+        TokenKind::Number(_) => Sort::Number,
+        TokenKind::Sized(_) => Sort::Sized,
+        TokenKind::Text => Sort::Text,
+        TokenKind::Mark(mark) => mark_sort(mark),
+        TokenKind::Outside => Sort::Outside,
+    }
+}
+
+/// What counts of a token. No keyword counts, so its text isn't looked at.
+pub fn seen_in(token: &Token) -> Seen
+    ensures { (text : List ℕ) → result ≡ seen_of (lexeme text token.now) }
+{
+    let sort = kind_sort(token.kind);
+    let number = number_of(token.kind);
+    Seen {
+        opens: sort.is(Sort::LeftBrace),
+        closes: sort.is(Sort::RightBrace),
+        before_index: sort.is(Sort::LeftBracket) || sort.is(Sort::Colon),
+        large: sort.is(Sort::Number) && number > GREATEST_INDEX,
+        outside: sort.is(Sort::Outside),
+        number,
+        place: token.place,
+    }
 }
 
 /// What counts of the tokens before.
@@ -47,28 +88,28 @@ impl Counts {
             (λ counts. (excess_of self.braces self.index t ≡ None) × (counts.braces ≡ open_behind self.braces t) × (counts.index ≡ opens_index t) × (counts.braces ≤ 32))
             (λ excess. excess_of self.braces self.index t ≡ Some excess) }
     {
-        if seen.sort.is(Sort::LeftBrace) && self.braces == MOST_BRACES {
+        if seen.opens && self.braces == MOST_BRACES {
             return Err(Excess {
                 kind: LimitKind::Nesting,
                 count: 33,
                 place: seen.place,
             });
         }
-        if self.index && seen.sort.is(Sort::Number) && seen.number > GREATEST_INDEX {
+        if self.index && seen.large {
             return Err(Excess {
                 kind: LimitKind::Index,
                 count: u64::from(seen.number),
                 place: seen.place,
             });
         }
-        let index = seen.sort.is(Sort::LeftBracket) || seen.sort.is(Sort::Colon);
-        if seen.sort.is(Sort::LeftBrace) {
+        let index = seen.before_index;
+        if seen.opens {
             return Ok(Counts {
                 braces: self.braces + 1,
                 index,
             });
         }
-        if seen.sort.is(Sort::RightBrace) {
+        if seen.closes {
             return Ok(Counts {
                 braces: self.braces.saturating_sub(1),
                 index,
@@ -90,16 +131,6 @@ pub struct Scan {
     pub excess: Option<Excess>,
 }
 
-/// Whether one more token leaves those that were seen clean.
-fn stays_clean(clean: bool, sort: Sort) -> bool
-    ensures { result ≡ true → (clean ≡ true) × (same Outside sort ≡ false) }
-{
-    if sort.is(Sort::Outside) {
-        return false;
-    }
-    clean
-}
-
 impl<'a> Parser<'a> {
     /// The first limit that the tokens pass, if one does: 33 braces are open at once, or an index is
     /// above 1,048,575. It takes the tokens to there, and where it takes them all, it also tells
@@ -114,7 +145,7 @@ impl<'a> Parser<'a> {
         };
         let mut clean = true;
         'tokens: while let Some(seen) = self.take() {
-            clean = stays_clean(clean, seen.sort);
+            clean = clean && !seen.outside;
             match counts.behind(seen) {
                 Ok(next) => counts = next,
                 Err(excess) => {

@@ -9,7 +9,7 @@ ghost use Rattle.vlog_parse.specs.Limits.{seen_of};
 ghost use Rattle.vlog_parse.specs.Giving.{Gives};
 
 use crate::lexeme::{bytes_of, name_of, number_of, sort_of, word_of};
-use crate::limits::Seen;
+use crate::limits::{Seen, seen_in};
 use crate::parts::Named;
 use crate::sort::Sort;
 use crate::stop::Stop;
@@ -117,13 +117,8 @@ impl<'a> Parser<'a> {
     {
         match self.rest.split_first() {
             Some((token, rest)) => {
-                let sort = sort_of(token.kind, bytes_of(self.text, token));
                 self.rest = rest;
-                Some(Seen {
-                    sort,
-                    number: number_of(token.kind),
-                    place: token.place,
-                })
+                Some(seen_in(token))
             }
             None => None,
         }
