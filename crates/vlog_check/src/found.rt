@@ -92,16 +92,9 @@ pub fn keep_earlier(best: &mut Option<Found>, found: Option<Found>)
     ensures { best.new ≡ earlier best.old found }
 {
     if found.is_some() {
-        put_earlier(best, found);
+        let first = best.take();
+        *best = earlier(first, found);
     }
-}
-
-// Puts the first of two findings.
-fn put_earlier(best: &mut Option<Found>, found: Option<Found>)
-    ensures { best.new ≡ earlier best.old found }
-{
-    let first = best.take();
-    *best = earlier(first, found);
 }
 
 /// The first of two findings.
