@@ -5,8 +5,8 @@ usage: measure/simulate.py PROGRAM [LARGEST]
 It is started at the top of the repository.
 
 Each netlist is made here: random logic with registers, one chain of gates, a deep hierarchy (each module has one
-instance of the next), and a wide one (one module with many instances). It is simulated over two lengths of stimulus,
-so that the time of a clock is told apart from the time to the first one. The last line is the time of the first example.
+instance of the next), and a wide one (one module with many instances). Each is simulated once. It is ready when the line of
+the first clock comes out, and the rate is that of the clocks behind it. The last line is the time of the first example.
 """
 import os
 import random
@@ -88,26 +88,41 @@ def wide(cells):
     return "\n".join(lines)
 
 
+def line_times(lines, start):
+    """The seconds from the start to the lines of the first and of the last clock. Line 1 has the names of the outputs."""
+    first = last = None
+    seen = 0
+    while part := os.read(lines, 65536):
+        seen += part.count(b"\n")
+        if seen > 1:
+            last = time.monotonic() - start
+            first = last if first is None else first
+    os.close(lines)
+    return first, last
+
+
 def run(program, folder, netlist, clocks):
-    """The answer, the seconds and the peak of memory in MB of one run over so many clocks."""
+    """What the program says, the seconds to the first clock's line and from there to the last one's, and the peak of memory in MB."""
     with open(os.path.join(folder, "m.v"), "w") as out:
         out.write(netlist)
     with open(os.path.join(folder, "stimulus"), "w") as out:
         out.write("a\n" + "".join(f"{k % 2}\n" for k in range(clocks)))
     errors = os.path.join(folder, "errors")
+    lines, out = os.pipe()
     start = time.monotonic()
     child = os.fork()
     if child == 0:
         os.chdir(folder)
         os.dup2(os.open("stimulus", os.O_RDONLY), 0)
-        os.dup2(os.open(os.devnull, os.O_WRONLY), 1)
+        os.dup2(out, 1)
         os.dup2(os.open(errors, os.O_WRONLY | os.O_CREAT | os.O_TRUNC), 2)
         os.execv(program, [program, "sim", "m.v", "m", "clk"])
+    os.close(out)
+    first, last = line_times(lines, start)
     _, _, usage = os.wait4(child, 0)
-    seconds = time.monotonic() - start
     with open(errors) as file:
         answer = file.read(60).strip()
-    return answer, seconds, usage.ru_maxrss / 1024
+    return answer, first, None if first is None else last - first, usage.ru_maxrss / 1024
 
 
 def example(program):
@@ -135,10 +150,8 @@ def main():
                     continue
                 netlist = make(cells)
                 more = max(100, min(1000, 200_000_000 // cells))
-                answer, first, _ = run(program, folder, netlist, 1)
-                _, whole, peak = run(program, folder, netlist, 1 + more)
-                rate = cells * more / max(whole - first, 1e-9) / 1e6
-                told = f"`{answer}` | " if answer else f"{first:.2f} | {rate:.1f}"
+                answer, first, further, peak = run(program, folder, netlist, 1 + more)
+                told = f"`{answer}` | " if answer else f"{first:.2f} | {cells * more / further / 1e6:.1f}"
                 print(f"| {make.__name__} | {cells} | {told} | {peak:.0f} |", flush=True)
     print(f"\nThe first example: {example(program):.1f} ms")
 
