@@ -88,21 +88,28 @@ def wide(cells):
     return "\n".join(lines)
 
 
-def line_times(lines, start):
-    """The seconds from the start to the lines of the first and of the last clock. Line 1 has the names of the outputs."""
-    first = last = None
-    seen = 0
+def clock_lines(lines, start):
+    """The seconds from the start to each part of the output that has lines of clocks, and how many had come out by then."""
+    seen = []
+    count = -1  # Line 1 has the names of the outputs.
     while part := os.read(lines, 65536):
-        seen += part.count(b"\n")
-        if seen > 1:
-            last = time.monotonic() - start
-            first = last if first is None else first
+        count += part.count(b"\n")
+        if count > 0:
+            seen.append((time.monotonic() - start, count))
     os.close(lines)
-    return first, last
+    return seen
+
+
+def rate(cells, seen):
+    """Million cells times clocks a second behind the first clock's line, where the parts of the output can tell it."""
+    (first, before), (last, all_of_them) = seen[0], seen[-1]
+    if all_of_them < 2 * before or last == first:
+        return "too short to tell"
+    return f"{cells * (all_of_them - before) / (last - first) / 1e6:.1f}"
 
 
 def run(program, folder, netlist, clocks):
-    """What the program says, the seconds to the first clock's line and from there to the last one's, and the peak of memory in MB."""
+    """What the program says, when the lines of clocks came out, and the peak of memory in MB."""
     with open(os.path.join(folder, "m.v"), "w") as out:
         out.write(netlist)
     with open(os.path.join(folder, "stimulus"), "w") as out:
@@ -118,11 +125,11 @@ def run(program, folder, netlist, clocks):
         os.dup2(os.open(errors, os.O_WRONLY | os.O_CREAT | os.O_TRUNC), 2)
         os.execv(program, [program, "sim", "m.v", "m", "clk"])
     os.close(out)
-    first, last = line_times(lines, start)
+    seen = clock_lines(lines, start)
     _, _, usage = os.wait4(child, 0)
     with open(errors) as file:
         answer = file.read(60).strip()
-    return answer, first, None if first is None else last - first, usage.ru_maxrss / 1024
+    return answer, seen, usage.ru_maxrss / 1024
 
 
 def example(program):
@@ -150,8 +157,8 @@ def main():
                     continue
                 netlist = make(cells)
                 more = max(100, min(1000, 200_000_000 // cells))
-                answer, first, further, peak = run(program, folder, netlist, 1 + more)
-                told = f"`{answer}` | " if answer else f"{first:.2f} | {cells * more / further / 1e6:.1f}"
+                answer, seen, peak = run(program, folder, netlist, 1 + more)
+                told = f"`{answer}` | " if answer else f"{seen[0][0]:.2f} | {rate(cells, seen)}"
                 print(f"| {make.__name__} | {cells} | {told} | {peak:.0f} |", flush=True)
     print(f"\nThe first example: {example(program):.1f} ms")
 
