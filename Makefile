@@ -1,6 +1,6 @@
 # What there is to make:
 #
-#   make demo                 runs the first example, by compiling the sources before their proof: about a minute
+#   make demo                 runs the first example, by compiling the sources before their proof: a minute or two
 #   make build                proves and builds the program, crates/ila/out/ila: see docs/MEASURED.md for how long
 #   make test                 what the merge gate runs: each proof, must-fail edit, test and run, then check-docs
 #   make install PREFIX=DIR   puts the built program and its manual page below DIR, /usr/local if none is given
@@ -22,7 +22,7 @@ help:
 demo:
 	@echo "The netlist, $(TOGGLE)/tog.v:"; echo; cat $(TOGGLE)/tog.v; echo
 	@echo "The stimulus, $(TOGGLE)/stimulus.txt, a header and a row for each clock:"; echo; cat $(TOGGLE)/stimulus.txt; echo
-	@echo "This run is of the sources before their proof; make build proves them. Compiling them takes about a minute."; echo
+	@echo "This run is of the sources before their proof; make build proves them. Compiling them takes a minute or two."; echo
 	@echo "ila sim tog.v tog clk < stimulus.txt"; echo
 	@cd crates/ila && rt try --data tog.v=../../$(TOGGLE)/tog.v -- sim tog.v tog clk < ../../$(TOGGLE)/stimulus.txt
 
