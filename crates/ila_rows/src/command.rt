@@ -42,7 +42,8 @@ pub fn command(alloc: Global, entry: &Entry<'_>, outcome: &mut Outcome) -> Resul
     outcome.push("exit", exit.into_bytes())?;
     outcome.push_copy("trace", trace.bytes())?;
     outcome.push_copy("line", errors.bytes())?;
-    give_files(&shelf, entry.fields, outcome)
+    give_files(&shelf, entry.fields, outcome)?;
+    give_files(&shelf, entry.common, outcome)
 }
 
 /// The stimulus of a row, in its pieces, with the reads that fail.

@@ -22,7 +22,8 @@ pub fn flat(alloc: Global, entry: &Entry<'_>, outcome: &mut Outcome) -> Result<(
     ) {
         Ok(flat) => {
             outcome.push("flat", flat_text(alloc, &flat)?)?;
-            give_nets(alloc, &flat, entry.fields, outcome)
+            give_nets(alloc, &flat, entry.fields, outcome)?;
+            give_nets(alloc, &flat, entry.common, outcome)
         }
         Err(stop) => outcome.push("flat", placed_text(alloc, stop)?),
     }
