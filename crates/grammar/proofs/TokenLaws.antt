@@ -4,7 +4,7 @@ use Rattle.std.proofs.Common.{sym, ◌∙◌, ap, subst}
 use Rattle.grammar.specs.Rule.{first, looks, read_term, term, token, pure, read_end, end}
 use Rattle.grammar.specs.Rule.Outcome.{Took, Stuck}
 use Rattle.grammar.specs.Good.{Sight, sees, anything, at_end, Taken, Blocked, Good}
-use Rattle.grammar.specs.Outcomes.{took_rest, took_value, stuck_rest, not_both, not_both_ways, not_empty, no_end, cond_yes, cond_not}
+use Rattle.grammar.proofs.Outcomes.{took_rest, took_value, stuck_rest, not_both, not_both_ways, not_empty, no_end, cond_yes, cond_not}
 
 -- One token
 

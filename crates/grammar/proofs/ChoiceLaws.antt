@@ -4,9 +4,9 @@ use Rattle.std.proofs.Common.{sym, ◌∙◌, ap, inl, inr}
 use Rattle.grammar.specs.Rule.{Rule, first, looks, pure, ◌>>=◌, either, optional}
 use Rattle.grammar.specs.Rule.Outcome.{Took, Stuck}
 use Rattle.grammar.specs.Good.{Sight, IsWithin, Excludes, or_else, sees, Taken, Blocked, Good}
-use Rattle.grammar.specs.Outcomes.{first_same, cond_yes, cond_not, no_end}
-use Rattle.grammar.specs.TokenLaws.{pure_good}
-use Rattle.grammar.specs.SequenceLaws.{then_good}
+use Rattle.grammar.proofs.Outcomes.{first_same, cond_yes, cond_not, no_end}
+use Rattle.grammar.proofs.TokenLaws.{pure_good}
+use Rattle.grammar.proofs.SequenceLaws.{then_good}
 
 pub or_left : (a b : Bool) → a ≡ true → (a || b) ≡ true
 or_left true b e = refl

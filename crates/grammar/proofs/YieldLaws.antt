@@ -1,8 +1,7 @@
 -- What is told of each value of a rule and of how many tokens stand for it, where something holds of the tokens.
 use Rattle.std.specs.Prelude.{◌≡◌, ℕ, zero, suc, ◌+◌, ◌<◌, ◌≤◌, Bool, true, List, [], ◌∷◌, ◌++◌, length, map, slice_get, Option, Some, None}
 use Rattle.std.proofs.Common.{sym, ◌∙◌, ap, subst, inl, inr, arith, length-append}
-use Rattle.grammar.specs.Rule.{Rule, token, term, pure, ◌>>=◌, either, AreWords, repeat, optional, list}
-use Rattle.grammar.specs.ListLaws.{separated}
+use Rattle.grammar.specs.Rule.{Rule, token, term, pure, ◌>>=◌, either, AreWords, repeat, optional, list, separated}
 
 -- What may hold of tokens: where it holds of some, it holds of both parts of them.
 pub record Parted (T : Type 0) : Type 1 where

@@ -1,13 +1,13 @@
 -- The law of lists with a separator between two, and what an exact rule says of a whole text.
 use Rattle.std.specs.Prelude.{◌≡◌, refl, Bool, true, false, ◌||◌, List, [], ◌∷◌, ◌++◌, None}
 use Rattle.std.proofs.Common.{sym, ◌∙◌, ap, subst, append-nil, append_assoc}
-use Rattle.grammar.specs.Rule.{Rule, Language, token, pure, ◌>>=◌, repeat, list}
+use Rattle.grammar.specs.Rule.{Rule, Language, token, pure, ◌>>=◌, repeat, list, separated}
 use Rattle.grammar.specs.Rule.Outcome.{Took, Stuck}
 use Rattle.grammar.specs.Good.{Sight, IsWithin, Excludes, or_else, sees, Taken, Blocked, Good, IsRefusedAt}
-use Rattle.grammar.specs.Outcomes.{not_both, not_empty, took_value}
-use Rattle.grammar.specs.TokenLaws.{token_good, pure_good}
-use Rattle.grammar.specs.SequenceLaws.{then_good}
-use Rattle.grammar.specs.RepeatLaws.{HasNoEmpty, repeat_good}
+use Rattle.grammar.proofs.Outcomes.{not_both, not_empty, took_value}
+use Rattle.grammar.proofs.TokenLaws.{token_good, pure_good}
+use Rattle.grammar.proofs.SequenceLaws.{then_good}
+use Rattle.grammar.proofs.RepeatLaws.{HasNoEmpty, repeat_good}
 
 -- either of two sights
 pub either_within : {T : Type 0} (a b all : Sight T) → IsWithin a all → IsWithin b all → IsWithin (or_else a b) all
@@ -15,10 +15,6 @@ either_within a b all in_a in_b o e = by_test (a o) refl e where
   by_test : (v : Bool) → a o ≡ v → or_else a b o ≡ true → all o ≡ true
   by_test true is e = in_a o is
   by_test false is e = in_b o (ap (λ v. v || b o) (sym is) ∙ e)
-
--- the separator and what stands behind it
-abbrev pub separated : {T A : Type 0} → (T → Bool) → Rule T A → Rule T A
-separated separates rule = do _ ← token separates; rule
 
 pub separated_no_empty : {T A : Type 0} (separates : T → Bool) (rule : Rule T A) → HasNoEmpty (separated separates rule)
 separated_no_empty separates rule x (front, back, a, cut, (t, is, passes, value), w) = not_empty (cut ∙ ap (λ us. us ++ back) is)

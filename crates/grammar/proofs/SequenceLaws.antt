@@ -4,7 +4,7 @@ use Rattle.std.proofs.Common.{sym, ◌∙◌, ap, subst, append_assoc}
 use Rattle.grammar.specs.Rule.{Outcome, Rule, first, continue, ◌>>=◌}
 use Rattle.grammar.specs.Rule.Outcome.{Took, Stuck}
 use Rattle.grammar.specs.Good.{Sight, IsWithin, Taken, Blocked, Good}
-use Rattle.grammar.specs.Outcomes.{continued, Halted, halted, here, behind, first_same}
+use Rattle.grammar.proofs.Outcomes.{continued, Halted, halted, here, behind, first_same}
 
 module _ {T A B : Type 0} {begins between between' follows : Sight T} (rule : Rule T A) (next : A → Rule T B)
     (one : Good T A begins between rule) (other : (x : A) → Good T B between' follows (next x)) (within : IsWithin between' between) where

@@ -1,18 +1,14 @@
 -- The laws of repetition: how a reading of several goes on from one to the next, and when it is exact.
 use Rattle.std.specs.Prelude.{◌≡◌, refl, ℕ, zero, suc, ◌+◌, ◌<◌, ◌≤◌, Bool, true, false, List, [], ◌∷◌, ◌++◌, length, cond}
 use Rattle.std.proofs.Common.{sym, ◌∙◌, ap, subst, inl, inr, append-nil, arith, length-append}
-use Rattle.grammar.specs.Rule.{Outcome, Rule, looks, continue, pure, ◌>>=◌, AreWords, times, repeat, unbounded}
+use Rattle.grammar.specs.Rule.{Outcome, Rule, looks, continue, pure, ◌>>=◌, AreWords, times, repeat, unbounded, Shrinks}
 use Rattle.grammar.specs.Rule.Outcome.{Took, Stuck}
 use Rattle.grammar.specs.Good.{Sight, IsWithin, Excludes, or_else, sees, Taken, Good}
-use Rattle.grammar.specs.Outcomes.{cond_yes, cond_not}
-use Rattle.grammar.specs.TokenLaws.{pure_good}
-use Rattle.grammar.specs.SequenceLaws.{then_good}
-use Rattle.grammar.specs.BoundLaws.{said_otherwise, unbounded_good}
-use Rattle.grammar.specs.ChoiceLaws.{widened, either_good, or_right}
-
--- what is taken leaves fewer tokens
-abbrev pub Shrinks : {T A : Type 0} → Rule T A → Type 0
-Shrinks {T} {A} rule = (ts rest : List T) (x : A) → rule.read ts ≡ Took x rest → length rest < length ts
+use Rattle.grammar.proofs.Outcomes.{cond_yes, cond_not}
+use Rattle.grammar.proofs.TokenLaws.{pure_good}
+use Rattle.grammar.proofs.SequenceLaws.{then_good}
+use Rattle.grammar.proofs.BoundLaws.{said_otherwise, unbounded_good}
+use Rattle.grammar.proofs.ChoiceLaws.{widened, either_good, or_right}
 
 -- no word of the rule is without tokens
 abbrev pub HasNoEmpty : {T A : Type 0} → Rule T A → Type 0

@@ -1,8 +1,8 @@
 -- What may come first, told by the sorts of tokens where there are finitely many: such facts are shown by trying all sorts.
-use Rattle.std.specs.Prelude.{◌≡◌, refl, ℕ, zero, suc, Bool, true, false, not, ◌&&◌, List, [], ◌∷◌, drop, Option, Some, None}
+use Rattle.std.specs.Prelude.{◌≡◌, refl, ℕ, zero, suc, Bool, true, false, not, ◌&&◌, List, [], ◌∷◌, drop, Some, None}
 use Rattle.std.proofs.Common.{sym, ◌∙◌}
 use Rattle.grammar.specs.Good.{Sight, IsWithin, Excludes}
-use Rattle.grammar.specs.Outcomes.{no_end}
+use Rattle.grammar.proofs.Outcomes.{no_end}
 
 abbrev pub every : {S : Type 0} → (S → Bool) → List S → Bool
 every test [] = true

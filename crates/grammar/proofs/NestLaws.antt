@@ -2,11 +2,10 @@
 -- most so many tokens.
 use Rattle.std.specs.Prelude.{◌≡◌, refl, ℕ, zero, suc, ◌+◌, ◌≤◌, Bool, true, false, List, [], ◌∷◌, ◌++◌, length, cond}
 use Rattle.std.proofs.Common.{◌∙◌, ap, arith, length-append}
-use Rattle.grammar.specs.Rule.{Outcome, Rule, Language, looks, continue, term, token, pure, ◌>>=◌, AreWords, times, repeat, list}
+use Rattle.grammar.specs.Rule.{Outcome, Rule, Language, looks, continue, term, token, pure, ◌>>=◌, AreWords, times, repeat, list, separated, Keeps}
 use Rattle.grammar.specs.Rule.Outcome.{Took, Stuck}
 use Rattle.grammar.specs.Good.{Sight, Taken, Good}
-use Rattle.grammar.specs.Outcomes.{continued, took_rest, not_both_ways}
-use Rattle.grammar.specs.ListLaws.{separated}
+use Rattle.grammar.proofs.Outcomes.{continued, took_rest, not_both_ways}
 
 -- each word of the one is a word of the other, of the same value
 abbrev pub IsPart : {T A : Type 0} → Language T A → Language T A → Type 0
@@ -25,10 +24,6 @@ list_rises {T} {A} separates rule other part ts ys (front, back, x, cut, w, (mid
 -- the two are read alike on lists of at most so many tokens
 abbrev pub SameTo : {T A : Type 0} → ℕ → Rule T A → Rule T A → Type 0
 SameTo {T} n rule other = (ts : List T) → length ts ≤ n → rule.read ts ≡ other.read ts
-
--- what is taken leaves no more tokens than there were
-abbrev pub Keeps : {T A : Type 0} → Rule T A → Type 0
-Keeps {T} {A} rule = (ts rest : List T) (x : A) → rule.read ts ≡ Took x rest → length rest ≤ length ts
 
 pub good_keeps : {T A : Type 0} {begins follows : Sight T} (rule : Rule T A) → Good T A begins follows rule → Keeps rule
 good_keeps {T} {A} rule good ts rest x e = by_whole (good.took ts rest x e) where

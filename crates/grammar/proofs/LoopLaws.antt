@@ -1,12 +1,10 @@
 -- Loops that read a repetition: what a loop has and what is left are one reading.
 use Rattle.std.specs.Prelude.{◌≡◌, refl, ◌<◌, ◌≤◌, Bool, true, false, cond, List, [], ◌∷◌, ◌++◌, length}
 use Rattle.std.proofs.Common.{sym, ◌∙◌, ap, arith, append_assoc, append-nil}
-use Rattle.grammar.specs.Rule.{Outcome, Rule, looks, continue, repeat}
+use Rattle.grammar.specs.Rule.{Outcome, Rule, looks, continue, repeat, Shrinks, separated, Keeps}
 use Rattle.grammar.specs.Rule.Outcome.{Took, Stuck}
-use Rattle.grammar.specs.Outcomes.{not_both_ways}
-use Rattle.grammar.specs.RepeatLaws.{Shrinks, with_first, repeat_takes, repeat_stops, repeat_ends}
-use Rattle.grammar.specs.ListLaws.{separated}
-use Rattle.grammar.specs.NestLaws.{Keeps}
+use Rattle.grammar.proofs.Outcomes.{not_both_ways}
+use Rattle.grammar.proofs.RepeatLaws.{with_first, repeat_takes, repeat_stops, repeat_ends}
 
 -- what is read where these values were read before
 abbrev pub behind : {T A : Type 0} → List A → Outcome T (List A) → Outcome T (List A)
