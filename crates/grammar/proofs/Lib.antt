@@ -9,3 +9,4 @@ pub mod NestLaws
 pub mod SortLaws
 pub mod LoopLaws
 pub mod YieldLaws
+pub mod FaultLaws
