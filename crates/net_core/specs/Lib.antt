@@ -5,3 +5,5 @@ pub mod Run
 pub mod Cycle
 pub mod Lookup
 pub mod Tables
+pub mod Drivers
+pub mod Places

@@ -12,14 +12,6 @@ use crate::parts::{Cell, Group, NetId, Pin, Port};
 use ila_base::NoMemory;
 use std::alloc::Global;
 
-/// How many net bits the groups have.
-pub fn count_nets(groups: &[Group]) -> usize
-    requires { net_count groups.now < 2 ^ 32 }
-    ensures { result ≡ net_count groups.now }
-{
-    groups.iter().map(|group| group.bits.len()).sum()
-}
-
 // Marks the nets.
 fn mark_nets(marks: &mut Vec<bool>, nets: &[NetId])
     requires { (n : ℕ) → IsAmongNets nets.now n → n < length marks.old.items }
