@@ -7,3 +7,5 @@ pub mod Lookup
 pub mod Tables
 pub mod Drivers
 pub mod Places
+pub mod Primitives
+pub mod PrimitiveLaws

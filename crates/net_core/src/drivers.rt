@@ -2,8 +2,8 @@ ghost use Rattle.std.specs.Prelude.{◌≡◌, ℕ, ◌<◌, IfOk, length};
 ghost use Rattle.net_core.specs.Netlist.{HasDriver};
 ghost use Rattle.net_core.specs.Drivers.{IsOutOn, NamesOutputs, AreDrivers};
 
-use ila_base::NoMemory;
 use crate::parts::{Cell, NetId};
+use ila_base::NoMemory;
 use std::alloc::Global;
 
 /// An output pin, by its number in its cell and the cell's.
@@ -27,7 +27,11 @@ fn feed(table: &mut Vec<Option<Output>>, outs: &[Option<NetId>], cell: usize)
 }
 
 /// For each net the output pin that drives it.
-pub fn driver_table(alloc: Global, count: usize, cells: &[Cell]) -> Result<Vec<Option<Output>>, NoMemory>
+pub fn driver_table(
+    alloc: Global,
+    count: usize,
+    cells: &[Cell],
+) -> Result<Vec<Option<Output>>, NoMemory>
     requires { (n : ℕ) → HasDriver cells.now n → n < count }
     ensures size { IfOk result (λ table. length table.items ≡ count) }
     ensures named { IfOk result (λ table. AreDrivers cells.now (length cells.now) table.items) }

@@ -6,11 +6,11 @@ ghost use Rattle.ila_base.specs.declared.refusal.LimitKind.TheVariants as limits
 ghost use Rattle.net_core.specs.Lookup.{IsGroupNamed, IsCellNamed, IsNetNamed};
 
 use crate::bit_split::split_bit_name;
+use crate::limits::{count_name_bytes, count_nets, count_pins};
 use crate::lists::item_at;
 use crate::names::NameTable;
 use crate::numbers::{number_cells, number_groups};
 use crate::parts::{Cell, CellId, Group, NetId, Port};
-use crate::limits::{count_name_bytes, count_nets, count_pins};
 use crate::tables::{clock_table, driven_table};
 use ila_base::NoMemory;
 use std::alloc::Global;

@@ -13,7 +13,10 @@ mod names;
 mod numbers;
 mod parts;
 mod places;
+mod primitive;
 mod tables;
+#[cfg(test)]
+mod tests;
 
 pub use bit_names::{bit_name, index_at, indexed};
 pub use bit_split::split_bit_name;
@@ -21,9 +24,12 @@ pub use drivers::{Output, driver_table};
 pub use flat::Flat;
 pub use kind::{CellKind, GateCode};
 pub use limits::{
-    GREATEST_INDEX, MOST_CELLS, MOST_NAME_BYTES, MOST_NETS, MOST_PINS, count_name_bytes, count_nets,
-    count_pins,
+    GREATEST_INDEX, MOST_CELLS, MOST_NAME_BYTES, MOST_NETS, MOST_PINS, count_name_bytes,
+    count_nets, count_pins,
 };
 pub use machine::Machine;
 pub use parts::{Cell, CellId, Group, NetId, Pin, Port};
 pub use places::net_names;
+pub use primitive::{
+    CellPort, PortSize, Primitive, Role, names_agree, port_named, ports, primitive_named,
+};

@@ -6,8 +6,8 @@ ghost use Rattle.net_core.specs.WellFormed as flat;
 ghost use Rattle.net_core.specs.Places.{ArePlaces, group_places};
 
 use crate::bit_names::group_bit_name;
-use ila_base::{Items, Name, NoMemory};
 use crate::parts::{Group, NetId};
+use ila_base::{Items, Name, NoMemory};
 use std::alloc::Global;
 
 // Where a net bit stands: the number of its group, and its place there from the left.

@@ -1,4 +1,4 @@
-use Rattle.std.proofs.Common.{◌≡◌, ◌+◌, ap, sym, ◌∙◌, subst, arith, sum_by}
+use Rattle.std.proofs.Common.{◌≡◌, ap, ◌∙◌, subst, arith, sum_by}
 use Rattle.net_core.specs.Netlist.{Netlist, parts_of}
 use Rattle.net_core.specs.WellFormed.{IsFlat, group_bytes, cell_bytes}
 use Rattle.net_core.proofs.LimitLemmas.{name_bytes_are}
