@@ -22,9 +22,6 @@ use Rattle.net_core.proofs.DependLemmas.{output_same, next_same, same_pins}
 
 -- What a flat netlist gives
 
-pub IsInput : Netlist → ℕ → Type 0
-IsInput net n = IsIn (input_nets net) n
-
 -- a clock buffer has one input pin
 buffer_pin : (kind : CellKind) (count i : ℕ) → is_clock_buffer kind ≡ true → IsPinCount (input_widths kind) count → i < count → i ≡ 0
 buffer_pin (Gate Buf) count i buffer size low = omega (arith, size, low)

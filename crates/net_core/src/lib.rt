@@ -31,5 +31,6 @@ pub use machine::Machine;
 pub use parts::{Cell, CellId, Group, NetId, Pin, Port};
 pub use places::net_names;
 pub use primitive::{
-    CellPort, PortSize, Primitive, Role, names_agree, port_named, ports, primitive_named,
+    CellPort, PortSize, Primitive, Role, names_agree, parameters, port_named, ports,
+    primitive_named,
 };

@@ -4,7 +4,7 @@ ghost use Rattle.std.specs.Prelude.{◌≡◌, map, find};
 ghost use Rattle.std.specs.Map.{lookup};
 ghost use Rattle.std.specs.Option.{option_map};
 ghost use Rattle.std.specs.Str.{bytes_eq};
-ghost use Rattle.net_core.specs.Primitives.{primitives, ports, PortRow, port_row};
+ghost use Rattle.net_core.specs.Primitives.{primitives, ports, parameters, PortRow, port_row};
 ghost use Rattle.net_core.specs.PrimitiveLaws.{WidthsAgree, RulesByName};
 
 /// A kind of cell that a netlist names, without its parameters.
@@ -320,6 +320,26 @@ pub fn port_named(cell: Primitive, name: &[u8]) -> Option<CellPort>
         }
     }
     None
+}
+
+/// The names of the parameters of a primitive.
+pub fn parameters(cell: Primitive) -> &'static [&'static [u8]]
+    ensures { map (λ name. name.now) result.now ≡ parameters cell }
+{
+    match cell {
+        Primitive::Lut1 => &[b"INIT"],
+        Primitive::Lut2 => &[b"INIT"],
+        Primitive::Lut3 => &[b"INIT"],
+        Primitive::Lut4 => &[b"INIT"],
+        Primitive::Lut5 => &[b"INIT"],
+        Primitive::Lut6 => &[b"INIT"],
+        Primitive::Fdre => &[b"INIT"],
+        Primitive::Fdse => &[b"INIT"],
+        Primitive::Fdce => &[b"INIT"],
+        Primitive::Fdpe => &[b"INIT"],
+        Primitive::Mem => &[b"AW", b"DW"],
+        _ => &[],
+    }
 }
 
 /// The table by names and that by the numbers of pins are one.

@@ -1,7 +1,7 @@
 //! The names of primitives, by their data sheets, and of a vector's bits.
 use crate::{
-    CellKind, GateCode, Primitive, Role, index_at, indexed, port_named, ports, primitive_named,
-    split_bit_name,
+    CellKind, GateCode, Primitive, Role, index_at, indexed, parameters, port_named, ports,
+    primitive_named, split_bit_name,
 };
 use ila_base::NoMemory;
 
@@ -11,6 +11,7 @@ fn primitives_by_name(rt: HostRuntime) {
     assert!(rt; primitive_named(b"CARRY4") == Some(Primitive::Carry4));
     assert!(rt; primitive_named(b"and").is_none());
     assert!(rt; ports(Primitive::Gnd).len() == 1);
+    assert!(rt; parameters(Primitive::Mem).len() == 2);
 }
 
 #[test]
