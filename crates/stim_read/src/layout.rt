@@ -1,5 +1,5 @@
 ghost use Rattle.std.specs.Prelude.{◌≡◌, ℕ, ◌+◌, ◌<◌, ◌≤◌, length, get_or, sum, sum_by, All, IfOk};
-ghost use Rattle.stim_read.specs.Stimulus.{widths_of, digits_of, field_at, fields_of};
+ghost use Rattle.stim_read.specs.Stimulus.{widths_of, longest_line, field_at, fields_of};
 
 use crate::inputs::{DataInput, Field};
 use ila_base::NoMemory;
@@ -7,7 +7,11 @@ use std::alloc::Global;
 
 // The fields of all inputs, in the inputs' order, and how many bits a row has.
 fn all_fields(alloc: Global, inputs: &[DataInput]) -> Result<(Vec<Field>, usize), NoMemory>
-    ensures { IfOk result (λ made. (length made.0.items ≡ length inputs.now) × ((k : ℕ) → k < length inputs.now → get_or made.0.items k (record { place = 0; width = 0 }) ≡ field_at (widths_of inputs.now) k) × (made.1 ≡ sum (widths_of inputs.now))) }
+    ensures { IfOk result (λ made. (length made.0.items ≡ length inputs.now) × ((k : ℕ)
+        → k < length inputs.now
+        → get_or made.0.items k (record { place = 0; width = 0 }) ≡ field_at
+        (widths_of inputs.now) k)
+        × (made.1 ≡ sum (widths_of inputs.now))) }
 {
     let mut fields = Vec::new(alloc);
     let mut place: usize = 0;
@@ -27,7 +31,8 @@ pub(crate) fn fields_in_order(
     order: &[usize],
 ) -> Result<(Vec<Field>, usize), NoMemory>
     requires { All (λ k. k < length inputs.now) order.now }
-    ensures { IfOk result (λ made. (made.0.items ≡ fields_of (widths_of inputs.now) order.now) × (made.1 ≡ sum (widths_of inputs.now))) }
+    ensures { IfOk result (λ made. (made.0.items ≡ fields_of (widths_of inputs.now) order.now)
+        × (made.1 ≡ sum (widths_of inputs.now))) }
 {
     let (all, size) = all_fields(alloc, inputs)?;
     let mut fields = Vec::new(alloc);
@@ -39,7 +44,7 @@ pub(crate) fn fields_in_order(
 
 /// Room for the bytes of any header and of any row of the inputs, with a carriage return.
 pub(crate) fn room(inputs: &[DataInput]) -> Result<usize, NoMemory>
-    ensures { IfOk result (λ room. (sum_by (λ input. length input.name + 1) inputs.now ≤ room) × (sum_by (λ input. digits_of input.width + 1) inputs.now ≤ room) × (1 ≤ room)) }
+    ensures { IfOk result (λ room. room ≡ longest_line inputs.now) }
 {
     let mut names: usize = 0;
     let mut words: usize = 0;
