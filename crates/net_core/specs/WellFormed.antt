@@ -5,7 +5,7 @@ use Rattle.std.specs.Option.{option_map_or}
 use Rattle.ila_base.specs.declared.refusal.LimitKind.{LimitKind}
 use Rattle.ila_base.specs.declared.refusal.LimitKind.TheVariants.{Cells, Pins, Nets, AllNames}
 pub use Rattle.net_graph.specs.Lists.{AllDiffer, Each}
-use Rattle.net_core.specs.declared.limits.TheConstants.{MOST_CELLS, MOST_PINS, MOST_NETS, MOST_NAME_BYTES, GREATEST_INDEX}
+use Rattle.ila_base.specs.declared.limits.TheConstants.{CELLS, PINS, NETS, ALL_NAME_BYTES, GREATEST_INDEX}
 use Rattle.net_core.specs.declared.parts.NetId.{NetId}
 use Rattle.net_core.specs.declared.parts.Cell.{Cell}
 use Rattle.net_core.specs.declared.parts.Group.{Group}
@@ -89,10 +89,10 @@ amount _ parts = 0
 
 -- and how many they may have
 abbrev pub greatest : LimitKind → ℕ
-greatest Cells = MOST_CELLS
-greatest Pins = MOST_PINS
-greatest Nets = MOST_NETS
-greatest AllNames = MOST_NAME_BYTES
+greatest Cells = CELLS
+greatest Pins = PINS
+greatest Nets = NETS
+greatest AllNames = ALL_NAME_BYTES
 greatest _ = 0
 
 pub record IsWithinLimits (parts : Parts) : Type 0 where

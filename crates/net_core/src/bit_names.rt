@@ -3,8 +3,8 @@ ghost use Rattle.std.specs.Prelude.{◌≡◌, ◌<◌, ◌≤◌, ◌+◌, ◌-
 ghost use Rattle.net_core.specs.Netlist.{net_count};
 ghost use Rattle.net_core.specs.WellFormed.{Each, HasRange, bit_names, net_names, range_indices, indexed_name};
 
-use crate::limits::GREATEST_INDEX;
 use crate::parts::Group;
+use ila_base::limits::GREATEST_INDEX;
 use ila_base::{Items, Name, NoMemory};
 use itoa::Buffer;
 use std::alloc::Global;

@@ -23,10 +23,7 @@ pub use bit_split::split_bit_name;
 pub use drivers::{Output, driver_table};
 pub use flat::Flat;
 pub use kind::{CellKind, GateCode};
-pub use limits::{
-    GREATEST_INDEX, MOST_CELLS, MOST_NAME_BYTES, MOST_NETS, MOST_PINS, count_name_bytes,
-    count_nets, count_pins,
-};
+pub use limits::{count_name_bytes, count_nets, count_pins};
 pub use machine::Machine;
 pub use parts::{Cell, CellId, Group, NetId, Pin, Port};
 pub use places::net_names;

@@ -1,25 +1,10 @@
-//! How large a flat netlist may be, and how large one is.
+//! How large a flat netlist is.
 ghost use Rattle.std.specs.Prelude.{◌≡◌, ◌+◌, ◌<◌, ◌^◌, length, sum_by};
 ghost use Rattle.std.specs.Option.{option_map_or};
 ghost use Rattle.net_core.specs.WellFormed.{pin_count, group_bytes, cell_bytes};
 ghost use Rattle.net_core.specs.Netlist.{net_count};
 
 use crate::parts::{Cell, Group};
-
-/// The most cells of a flat netlist.
-pub const MOST_CELLS: u32 = 1_048_576;
-
-/// The most pins of its cells: input pins, output pins, open ones too, and clock pins.
-pub const MOST_PINS: u32 = 16_777_216;
-
-/// The most net bits of a flat netlist.
-pub const MOST_NETS: u32 = 1_048_576;
-
-/// The most bytes of its flat identifiers together.
-pub const MOST_NAME_BYTES: u32 = 67_108_864;
-
-/// The greatest index of a vector (IEEE 1364-2005, 3.3.1).
-pub const GREATEST_INDEX: u32 = 1_048_575;
 
 /// How many net bits the groups have.
 pub fn count_nets(groups: &[Group]) -> usize

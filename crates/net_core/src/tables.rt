@@ -5,10 +5,10 @@ ghost use Rattle.net_core.specs.Netlist.{net_count, HasDriver, Drives, Reads, Is
 ghost use Rattle.net_core.specs.Tables.{IsOn, IsAmongNets, IsInputOf, IsBufferInput, IsBufferFrom, AddsMarks, Writes, AreSources, AreBack, IsClockTable, IsDrivenTable};
 ghost use Rattle.net_core.specs.declared.parts.Cell.{Cell as CellOf};
 
-use crate::limits::MOST_NETS;
 use crate::lists::item_at;
 use crate::parts::{Cell, Group, NetId, Pin, Port};
 use ila_base::NoMemory;
+use ila_base::limits::NETS;
 use std::alloc::Global;
 
 // Marks the nets.
@@ -165,7 +165,7 @@ pub fn clock_table(
     cells: &[Cell],
     clock: NetId,
 ) -> Result<Vec<bool>, NoMemory>
-    requires few { count ≤ MOST_NETS }
+    requires few { count ≤ NETS }
     requires driven { (n : ℕ) → HasDriver cells.now n → n < count }
     requires read { (c i m : ℕ) (cell : _) → Reads cells.now c cell i m → m < count }
     requires one_driver { (c d k l n : ℕ) (a b : _) → Drives cells.now c a k n → Drives cells.now d b l n → c ≡ d }
