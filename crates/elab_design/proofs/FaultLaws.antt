@@ -9,7 +9,7 @@ use Rattle.net_core.specs.declared.parts.Cell.{Cell}
 use Rattle.net_core.specs.declared.parts.Group.{Group}
 use Rattle.net_core.specs.Netlist.{Parts}
 use Rattle.net_core.specs.WellFormed.{net_names}
-use Rattle.vlog_lex.specs.declared.token.NetFault.{NetFault}
+use Rattle.ila_base.specs.declared.fault.NetFault.{NetFault}
 use Rattle.vlog_parse.specs.ReadTree.{In}
 use Rattle.flat_settle.specs.declared.raw.Raw.{Raw}
 use Rattle.flat_settle.specs.declared.raw.RawCell.{RawCell}

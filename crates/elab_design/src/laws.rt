@@ -4,7 +4,7 @@ ghost use Rattle.ila_base.specs.declared.refusal.LimitKind.{LimitKind as LimitKi
 ghost use Rattle.net_core.specs.Netlist.{Netlist as NetlistOf, Parts as PartsOf, parts_of, is_clock};
 ghost use Rattle.net_core.specs.Run.{History, IsOneRun};
 ghost use Rattle.net_core.specs.WellFormed.{IsFlat};
-ghost use Rattle.vlog_lex.specs.declared.token.NetFault.{NetFault as NetFaultOf};
+ghost use Rattle.ila_base.specs.declared.fault.NetFault.{NetFault as NetFaultOf};
 ghost use Rattle.vlog_parse.specs.ReadTree.{In, IsReadTree};
 ghost use Rattle.vlog_check.specs.Checked.{IsChecked};
 ghost use Rattle.flat_settle.specs.declared.raw.Raw.{Raw as RawOf};

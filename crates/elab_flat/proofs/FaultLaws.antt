@@ -4,10 +4,10 @@ use Rattle.std.proofs.lemmas.Option.{same_Some}
 use Rattle.ila_base.specs.declared.refusal.NetRefusal.TheVariants.{Limit}
 use Rattle.ila_base.specs.declared.refusal.LimitKind.{LimitKind}
 use Rattle.ila_base.specs.declared.refusal.LimitKind.TheVariants.{Depth, Cells, Pins, Nets, AllNames}
-use Rattle.vlog_lex.specs.declared.token.NetFault.{NetFault}
-use Rattle.vlog_lex.specs.declared.token.NetStop.{NetStop}
-use Rattle.vlog_lex.specs.declared.token.NetStop.TheVariants as stops
-use Rattle.vlog_lex.specs.Cutting.{StopsFor}
+use Rattle.ila_base.specs.declared.fault.NetFault.{NetFault}
+use Rattle.ila_base.specs.declared.fault.NetStop.{NetStop}
+use Rattle.ila_base.specs.declared.fault.NetStop.TheVariants as stops
+use Rattle.ila_base.specs.Stops.{StopsFor}
 use Rattle.vlog_parse.specs.declared.tree.Module.{Module}
 use Rattle.vlog_parse.specs.ReadTree.{In}
 use Rattle.flat_settle.specs.declared.raw.Raw.{Raw}

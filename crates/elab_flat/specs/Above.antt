@@ -4,7 +4,7 @@ use Rattle.ila_base.specs.declared.refusal.LimitKind.{LimitKind}
 use Rattle.ila_base.specs.declared.refusal.LimitKind.TheVariants.{Depth, Cells, Pins, Nets, AllNames}
 use Rattle.ila_base.specs.declared.place.Place.{Place}
 use Rattle.ila_base.specs.declared.refusal.NetRefusal.TheVariants.{TopOrClock, Limit}
-use Rattle.vlog_lex.specs.declared.token.NetFault.{NetFault}
+use Rattle.ila_base.specs.declared.fault.NetFault.{NetFault}
 use Rattle.vlog_parse.specs.declared.tree.Dir.TheVariants.{Input}
 use Rattle.vlog_parse.specs.declared.tree.Module.{Module}
 use Rattle.vlog_parse.specs.ReadTree.{In}

@@ -2,8 +2,8 @@ ghost use Rattle.std.specs.Prelude.{◌≡◌, ◌<◌, length, Some, None, IfOk
 ghost use Rattle.ila_base.specs.declared.refusal.NetRefusal.TheVariants as refusals;
 ghost use Rattle.net_core.specs.Netlist.{parts_of};
 ghost use Rattle.net_core.specs.WellFormed.{IsFlat};
-ghost use Rattle.vlog_lex.specs.declared.token.NetFault.{NetFault as NetFaultOf};
-ghost use Rattle.vlog_lex.specs.Cutting.{StopsFor};
+ghost use Rattle.ila_base.specs.declared.fault.NetFault.{NetFault as NetFaultOf};
+ghost use Rattle.ila_base.specs.Stops.{StopsFor};
 ghost use Rattle.vlog_parse.specs.ReadTree.{IsReadTree};
 ghost use Rattle.vlog_check.specs.Scope.{module_number};
 ghost use Rattle.vlog_check.specs.Checked.{IsChecked};
@@ -25,11 +25,10 @@ use elab_design::{elaborates, has_counts, one_fault, raw_is_unfolded};
 use elab_scope::{Count, Counts, Nets, read_all_nets, read_modules};
 use elab_unfold::unfold;
 use flat_settle::{Raw, Unsettled, settle};
-use ila_base::{Name, NetRefusal, NoMemory, Place};
+use ila_base::{Name, NetFault, NetRefusal, NetStop, NoMemory, Place};
 use net_core::Flat;
 use std::alloc::Global;
 use vlog_check::Checked;
-use vlog_lex::{NetFault, NetStop};
 use vlog_parse::{Module, Tree};
 
 // The number of the top among the modules of a checked tree.

@@ -3,11 +3,11 @@ ghost use Rattle.std.specs.Prelude.{IfOk};
 ghost use Rattle.vlog_parse.specs.ReadTree.{IsReadTree};
 
 use crate::flatten;
-use ila_base::NetRefusal;
+use ila_base::{NetRefusal, NetStop};
 use std::alloc::Global;
 use std::test::Fail;
 use vlog_check::{Checked, check};
-use vlog_lex::{NetStop, tokens};
+use vlog_lex::tokens;
 use vlog_parse::{Tree, parse};
 
 // The tree of a text that has one.

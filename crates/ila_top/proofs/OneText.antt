@@ -7,7 +7,7 @@ use Rattle.net_core.specs.WellFormed.{IsFlat}
 use Rattle.net_core.specs.Cycle.{Feeds, IsCycle, HasCycle}
 use Rattle.ila_base.specs.declared.refusal.NetRefusal.TheVariants.{Loop}
 use Rattle.vlog_lex.specs.declared.token.Token.{Token}
-use Rattle.vlog_lex.specs.declared.token.NetFault.{NetFault}
+use Rattle.ila_base.specs.declared.fault.NetFault.{NetFault}
 use Rattle.vlog_lex.specs.Cutting.{IsReading}
 use Rattle.vlog_parse.specs.declared.tree.Tree.{Tree}
 use Rattle.vlog_parse.specs.Design.{IsDesign}

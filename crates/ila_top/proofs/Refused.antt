@@ -3,11 +3,12 @@ use Rattle.std.proofs.Common.{ℕ, List, Result, Ok, Err, inl, inr}
 use Rattle.std.specs.Prelude.{Some, None, IfOk, IfErr, OnOk}
 use Rattle.net_core.specs.Netlist.{Netlist}
 use Rattle.net_core.specs.WellFormed.{IsFlat}
-use Rattle.vlog_lex.specs.declared.token.NetFault.{NetFault}
-use Rattle.vlog_lex.specs.declared.token.NetStop.{NetStop}
-use Rattle.vlog_lex.specs.declared.token.NetStop.TheVariants as stops
+use Rattle.ila_base.specs.declared.fault.NetFault.{NetFault}
+use Rattle.ila_base.specs.declared.fault.NetStop.{NetStop}
+use Rattle.ila_base.specs.declared.fault.NetStop.TheVariants as stops
 use Rattle.vlog_lex.specs.declared.token.Token.{Token}
-use Rattle.vlog_lex.specs.Cutting.{IsReading, StopsFor}
+use Rattle.ila_base.specs.Stops.{StopsFor}
+use Rattle.vlog_lex.specs.Cutting.{IsReading}
 use Rattle.vlog_parse.specs.Parsing.{IsRefusal}
 use Rattle.vlog_parse.specs.declared.tree.Tree.{Tree}
 use Rattle.vlog_check.specs.Checked.{IsChecked, IsRefused}

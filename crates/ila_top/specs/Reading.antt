@@ -7,9 +7,9 @@ use Rattle.net_core.specs.WellFormed.{IsFlat, net_names}
 use Rattle.net_core.specs.Cycle.{IsCycle, HasCycle}
 use Rattle.net_levels.specs.Levels.{BeginsLeast}
 use Rattle.vlog_lex.specs.declared.token.Token.{Token}
-use Rattle.vlog_lex.specs.declared.token.NetFault.{NetFault}
-use Rattle.vlog_lex.specs.declared.token.NetStop.{NetStop}
-use Rattle.vlog_lex.specs.declared.token.NetStop.TheVariants as stops
+use Rattle.ila_base.specs.declared.fault.NetFault.{NetFault}
+use Rattle.ila_base.specs.declared.fault.NetStop.{NetStop}
+use Rattle.ila_base.specs.declared.fault.NetStop.TheVariants as stops
 use Rattle.vlog_lex.specs.Cutting.{IsReading}
 use Rattle.vlog_parse.specs.declared.tree.Tree.{Tree}
 use Rattle.vlog_parse.specs.Parsing.{IsReadAs, IsRefusal}

@@ -5,8 +5,8 @@ ghost use Rattle.net_core.specs.Netlist.{numbers};
 ghost use Rattle.net_core.specs.WellFormed.{IsFlat};
 ghost use Rattle.net_core.specs.Cycle.{IsCycle, HasCycle};
 ghost use Rattle.net_levels.specs.Levels.{AreLevels, BeginsLeast};
-ghost use Rattle.vlog_lex.specs.declared.token.NetFault.{NetFault as FaultOf};
-ghost use Rattle.vlog_lex.specs.Cutting.{StopsFor};
+ghost use Rattle.ila_base.specs.declared.fault.NetFault.{NetFault as FaultOf};
+ghost use Rattle.ila_base.specs.Stops.{StopsFor};
 ghost use Rattle.vlog_parse.specs.declared.tree.Tree.{Tree as TreeOf};
 ghost use Rattle.vlog_parse.specs.ReadTree.{IsReadTree};
 ghost use Rattle.ila_top.specs.Reading.{StandsForTree, IsNetOf, IsTextFault, IsLoopFault, design_of};
@@ -14,13 +14,13 @@ ghost use Rattle.ila_top.specs.Answers.{most_bytes};
 
 use elab_flat::flatten;
 use flat_settle::net_names;
-use ila_base::{NetRefusal, Place};
+use ila_base::{NetFault, NetRefusal, NetStop, Place};
 use net_core::{Flat, NetId};
 use net_levels::calls::levels;
 use net_levels::types::{LevelFault, Levels};
 use std::alloc::Global;
 use vlog_check::check;
-use vlog_lex::{NetFault, NetStop, tokens};
+use vlog_lex::tokens;
 use vlog_parse::{Tree, parse};
 
 // The tree of a text.

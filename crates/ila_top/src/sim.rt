@@ -7,9 +7,8 @@ use crate::load::load_netlist;
 use crate::netlist::read_netlist;
 use crate::simulate::simulate;
 use crate::status::Status;
-use ila_base::{Shelf, Sink, Source};
+use ila_base::{NetStop, Shelf, Sink, Source};
 use std::alloc::Global;
-use vlog_lex::NetStop;
 
 /// Simulates the netlist of the words over the stimulus, and writes the outputs text to the trace.
 pub fn sim<H: Shelf, S: Source, K: Sink>(

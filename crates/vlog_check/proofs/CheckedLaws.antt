@@ -2,7 +2,7 @@
 use Rattle.std.proofs.Common.{◌≡◌, ℕ, ◌<◌, List, length, slice_get, get_or, Some, None, ap, sym, subst}
 use Rattle.std.proofs.lemmas.Option.{slice_get_within, slice_get-get_or}
 use Rattle.ila_base.specs.declared.refusal.NetRefusal.TheVariants.{Recursion}
-use Rattle.vlog_lex.specs.declared.token.NetFault.{NetFault}
+use Rattle.ila_base.specs.declared.fault.NetFault.{NetFault}
 use Rattle.vlog_parse.specs.declared.tree.Tree.{Tree}
 use Rattle.vlog_parse.specs.declared.tree.Module.{Module}
 use Rattle.vlog_check.specs.declared.found.Found.{Found}

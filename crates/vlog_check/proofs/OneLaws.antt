@@ -12,7 +12,7 @@ use Rattle.std.proofs.lemmas.Option.{same_Some, none-some}
 use Rattle.ila_base.specs.declared.place.Place.{Place}
 use Rattle.ila_base.specs.declared.refusal.NetRefusal.{NetRefusal}
 use Rattle.ila_base.specs.declared.refusal.NetRefusal.TheVariants.{Recursion}
-use Rattle.vlog_lex.specs.declared.token.NetFault.{NetFault}
+use Rattle.ila_base.specs.declared.fault.NetFault.{NetFault}
 use Rattle.vlog_parse.specs.declared.tree.Tree.{Tree}
 use Rattle.vlog_parse.specs.declared.tree.Module.{Module}
 use Rattle.vlog_check.specs.declared.found.Detail.{Detail}

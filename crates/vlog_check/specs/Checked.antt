@@ -1,7 +1,7 @@
 -- A checked design: nothing is found, the top is there, and no module contains itself. And why a design is refused.
 use Rattle.std.specs.Prelude.{◌≡◌, ℕ, ◌≤◌, List, slice_get, Option, Some, None, ◌⊎◌}
 use Rattle.ila_base.specs.declared.refusal.NetRefusal.TheVariants.{Recursion, TopOrClock}
-use Rattle.vlog_lex.specs.declared.token.NetFault.{NetFault}
+use Rattle.ila_base.specs.declared.fault.NetFault.{NetFault}
 use Rattle.vlog_parse.specs.declared.tree.Tree.{Tree}
 use Rattle.vlog_parse.specs.declared.tree.Module.{Module}
 use Rattle.vlog_parse.specs.declared.tree.Item.{Item}

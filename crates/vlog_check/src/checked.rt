@@ -1,7 +1,7 @@
 //! Checked designs.
 
 ghost use Rattle.std.specs.Prelude.{◌≡◌, ◌<◌, ◌≤◌, ℕ, List, length, Some, None, IfOk, IfErr};
-ghost use Rattle.vlog_lex.specs.Cutting.{StopsFor};
+ghost use Rattle.ila_base.specs.Stops.{StopsFor};
 ghost use Rattle.vlog_parse.specs.ReadTree.{IsReadTree};
 ghost use Rattle.vlog_check.specs.Design.{IsScope};
 ghost use Rattle.vlog_check.specs.Found.{IsLeastFinding};
@@ -11,10 +11,9 @@ ghost use Rattle.vlog_check.specs.Checked.{Finds, IsChecked, IsRefused, IsFault}
 use crate::contained::first_inside;
 use crate::design::find_all;
 use crate::modules::Scope;
-use ila_base::{Name, NetRefusal, NoMemory, Place};
+use ila_base::{Name, NetFault, NetRefusal, NetStop, NoMemory, Place};
 use std::alloc::Global;
 use std::marker::Model;
-use vlog_lex::{NetFault, NetStop};
 use vlog_parse::Tree;
 
 /// A design that is checked: a tree and the name of its top, of which nothing is found. The top is one

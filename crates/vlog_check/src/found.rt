@@ -1,9 +1,8 @@
 ghost use Rattle.std.specs.Prelude.{◌≡◌};
 ghost use Rattle.vlog_check.specs.Found.{key_of, number_of, is_later, earlier};
 
-use ila_base::{NetRefusal, Place};
+use ila_base::{NetFault, NetRefusal, Place};
 use std::cmp::Ordering;
-use vlog_lex::NetFault;
 
 /// What a finding counts by among those of its number at its place, in this order.
 #[derive(Clone, Copy, Debug)]

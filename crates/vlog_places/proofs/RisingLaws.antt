@@ -6,11 +6,12 @@ use Rattle.std.proofs.lemmas.List.{reverse-append}
 use Rattle.std.proofs.lemmas.List.Elements.{All-head, All-tail}
 use Rattle.std.proofs.lemmas.List.Sums.{sum_by_push}
 use Rattle.ila_base.specs.declared.place.Place.{Place}
-use Rattle.vlog_lex.specs.declared.token.NetFault.{NetFault}
+use Rattle.ila_base.specs.declared.fault.NetFault.{NetFault}
 use Rattle.vlog_lex.specs.declared.token.Token.{Token}
-use Rattle.vlog_lex.specs.Bytes.{is_newline}
-use Rattle.vlog_lex.specs.Skipped.{is_in_line}
-use Rattle.vlog_lex.specs.Cutting.{IsReading, too_long, cut as cut_into, Cuts, ends, skips, takes, refuses, token_behind, place_behind, is_mark_of, parenthesis_next, settled_token, settled, IsWithin}
+use Rattle.ila_base.specs.Bytes.{is_newline}
+use Rattle.ila_base.specs.Bytes.{is_in_line}
+use Rattle.ila_base.specs.Places.{place_behind}
+use Rattle.vlog_lex.specs.Cutting.{IsReading, too_long, cut as cut_into, Cuts, ends, skips, takes, refuses, token_behind, is_mark_of, parenthesis_next, settled_token, settled, IsWithin}
 use Rattle.vlog_lex.proofs.TokenLaws.{cut_within}
 use Rattle.vlog_parse.specs.Lexemes.{lexemes}
 use Rattle.vlog_parse.specs.Items.{place_of}

@@ -1,5 +1,5 @@
 use Rattle.std.proofs.Common.{ℕ, List, OnOk, subst, ◌∙◌}
-use Rattle.vlog_lex.specs.declared.token.NetFault.{NetFault}
+use Rattle.ila_base.specs.declared.fault.NetFault.{NetFault}
 use Rattle.vlog_parse.specs.declared.tree.Tree.{Tree}
 use Rattle.elab_design.specs.Limits.{IsElabFault}
 use Rattle.elab_flat.proofs.flatten_design.flatten.Goals as goal

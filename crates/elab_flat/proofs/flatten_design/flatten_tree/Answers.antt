@@ -5,8 +5,8 @@ use Rattle.elab_unfold.specs.Parts.{IsWithin}
 use Rattle.elab_amounts.specs.Amounts.{count_of}
 use Rattle.net_core.specs.Netlist.{parts_of}
 use Rattle.flat_settle.specs.Refusals.{Settles}
-use Rattle.vlog_lex.specs.declared.token.NetFault.{NetFault}
-use Rattle.vlog_lex.specs.Cutting.{StopsFor}
+use Rattle.ila_base.specs.declared.fault.NetFault.{NetFault}
+use Rattle.ila_base.specs.Stops.{StopsFor}
 use Rattle.elab_design.specs.Limits.{IsElabFault}
 use Rattle.elab_flat.specs.Above.{IsFaultBefore, IsUnsettled}
 use Rattle.elab_flat.proofs.PortLaws.{item_at}

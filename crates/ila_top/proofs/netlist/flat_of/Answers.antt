@@ -1,8 +1,8 @@
 use Rattle.std.proofs.Common.{ℕ, List, subst}
 use Rattle.std.specs.Prelude.{IfOk, IfErr, OnOk}
 use Rattle.std.proofs.lemmas.Result.{err_from_is_err_and}
-use Rattle.vlog_lex.specs.declared.token.NetFault.{NetFault}
-use Rattle.vlog_lex.specs.Cutting.{StopsFor}
+use Rattle.ila_base.specs.declared.fault.NetFault.{NetFault}
+use Rattle.ila_base.specs.Stops.{StopsFor}
 use Rattle.vlog_parse.specs.declared.tree.Tree.{Tree}
 use Rattle.elab_design.specs.Limits.{IsElabFault}
 use Rattle.elab_design.specs.Elaborates.{Elaborates}

@@ -1,5 +1,5 @@
 use Rattle.std.proofs.Common.{ℕ, ◌≤◌, List, length, subst, arith}
-use Rattle.vlog_lex.specs.Cutting.{StopsFor}
+use Rattle.ila_base.specs.Stops.{StopsFor}
 use Rattle.ila_top.specs.Reading.{IsTextFault, IsNetOf, design_of}
 use Rattle.ila_top.specs.Answers.{Outside, SimWords, outside_of, most_bytes}
 use Rattle.ila_top.proofs.Refused.{text_refused}
