@@ -1,20 +1,14 @@
 -- A text is cut in one way.
-use Rattle.std.proofs.Common.{◌≡◌, ℕ, List, [], ◌∷◌, ◌++◌, refl, sym, ◌∙◌, ap, subst, arith, length, take, drop}
+use Rattle.std.proofs.Common.{◌≡◌, ℕ, List, [], ◌∷◌, ◌++◌, sym, ◌∙◌, ap, subst, arith, length}
 use Rattle.std.specs.Prelude.{Option, Some, None}
-use Rattle.std.proofs.lemmas.List.{take_at, drop_at}
-use Rattle.grammar.specs.Outcomes.{no_end}
+use Rattle.grammar.proofs.Outcomes.{no_end}
+use Rattle.ila_base.proofs.TextLaws.{same_front}
 use Rattle.ila_base.specs.declared.place.Place.{Place}
 use Rattle.tsm_parse.specs.declared.token.Token.{Token}
-use Rattle.tsm_parse.specs.Tokens.{Skips, IsLongest, BeginsNothing, place_behind, token_behind, Cuts, ends, skips, takes, stops}
+use Rattle.tsm_parse.specs.Tokens.{Skips, IsLongest, BeginsNothing, token_behind, Cuts, ends, skips, takes, stops}
+use Rattle.ila_base.specs.Places.{place_behind}
 use Rattle.tsm_parse.specs.Reading.{skip_length}
 use Rattle.tsm_parse.proofs.PieceLaws.{skips_again, skips_some, skip_no_token, same_count}
-
--- two fronts of one length are the same
-pub same_front : (text a x b y : List ℕ) → text ≡ a ++ x → text ≡ b ++ y → length a ≡ length b → (a ≡ b) × (x ≡ y)
-same_front text a x b y first second long = (
-  sym (take_at a x (length a) refl) ∙ ap (take (length a)) (sym first ∙ second) ∙ take_at b y (length a) (sym long),
-  sym (drop_at a x (length a) refl) ∙ ap (drop (length a)) (sym first ∙ second) ∙ drop_at b y (length a) (sym long),
-)
 
 -- what excludes what
 

@@ -2,7 +2,7 @@
 use Rattle.std.proofs.Common.{◌≡◌, ℕ, zero, suc, ◌+◌, ◌-◌, ◌<◌, ◌≤◌, Bool, true, false, List, [], ◌∷◌, length, take, refl, ap, ◌∙◌, arith}
 use Rattle.std.specs.Prelude.{◌&&◌, if◌then◌else◌}
 use Rattle.std.specs.List.{list_all}
-use Rattle.grammar.specs.Outcomes.{no_end}
+use Rattle.grammar.proofs.Outcomes.{no_end}
 use Rattle.tsm_parse.specs.declared.bytes.Base.{Base}
 use Rattle.tsm_parse.specs.Constants.{is_digit, is_place, is_numeral, passes_at}
 use Rattle.tsm_parse.specs.Reading.{digits_more, digits_end, numeral_length}

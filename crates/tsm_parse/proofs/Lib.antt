@@ -13,3 +13,4 @@ pub mod SpanLaws
 pub mod StepLaws
 pub mod TokenLaws
 pub mod Values
+pub mod TreeFacts

@@ -4,9 +4,10 @@ use Rattle.std.specs.Prelude.{◌||◌, ◌==◌, if◌then◌else◌}
 use Rattle.std.specs.List.{list_all, prefix_len}
 use Rattle.std.proofs.lemmas.Bool.{eqb-true}
 use Rattle.std.proofs.lemmas.List.Sums.{prefix_len-le-length}
-use Rattle.grammar.specs.Outcomes.{no_end, cond_yes, cond_not}
+use Rattle.grammar.proofs.Outcomes.{no_end, cond_yes, cond_not}
 use Rattle.tsm_parse.specs.declared.token.Sort.TheVariants.{Register, Constant}
-use Rattle.tsm_parse.specs.Words.{is_letter, is_digit, is_word_byte, is_word, is_register, is_constant, is_single, is_double, is_mark, is_token, word_sort, mark_sort, sort_of}
+use Rattle.ila_base.specs.Bytes.{is_letter, is_digit, is_word_byte}
+use Rattle.tsm_parse.specs.Words.{is_word, is_register, is_constant, is_single, is_double, is_mark, is_token, word_sort, mark_sort, sort_of}
 use Rattle.tsm_parse.specs.Reading.{constant_length, register_length, mark_length, token_length, sort_at}
 use Rattle.tsm_parse.proofs.TokenLaws.{apart, and_not, true_and, take_one, digit_no_letter, no_constant, letter_token, register_token, digit_token, mark_token, front_passes, longer_fails}
 use Rattle.tsm_parse.proofs.FrontLaws.{IsLength}

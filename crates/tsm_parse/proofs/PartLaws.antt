@@ -1,19 +1,17 @@
 -- How a part of a condition is read, by the room for parentheses.
 use Rattle.std.specs.Prelude.{◌≡◌, refl, ℕ, zero, suc, ◌+◌, ◌-◌, true, false, List, [], ◌∷◌, ◌++◌, length}
 use Rattle.std.proofs.Common.{sym, ap, subst, arith, length-append, Result}
-use Rattle.grammar.specs.Rule.{Outcome, looks}
-use Rattle.grammar.specs.Outcomes.{cond_yes, cond_not}
-use Rattle.grammar.specs.NestLaws.{good_keeps}
-use Rattle.grammar.specs.RepeatLaws.{Shrinks}
-use Rattle.grammar.specs.LoopLaws.{separated_shrinks}
-use Rattle.grammar.specs.ListLaws.{separated}
-use Rattle.tsm_parse.specs.declared.stop.Stop.{Stop}
+use Rattle.grammar.specs.Rule.{Outcome, looks, Shrinks, separated}
+use Rattle.grammar.proofs.Outcomes.{cond_yes, cond_not}
+use Rattle.grammar.proofs.NestLaws.{good_keeps}
+use Rattle.grammar.proofs.LoopLaws.{separated_shrinks}
+use Rattle.grammar.specs.declared.stop.Stop.{Stop}
 use Rattle.tsm_parse.specs.declared.token.Sort.TheVariants.{LeftParenthesis, AndAnd, OrOr}
 use Rattle.tsm_parse.specs.declared.types.AstFormula.{AstFormula}
 use Rattle.tsm_parse.specs.declared.types.AstFormula.TheVariants.{All, Any}
 use Rattle.tsm_parse.specs.Lexemes.{Lexeme, is}
 use Rattle.tsm_parse.specs.Conditions.{comparison, all_over, any_over, bracketed, part_within, all_of, any_of}
-use Rattle.tsm_parse.specs.Giving.{Gives}
+use Rattle.grammar.specs.Giving.{Gives}
 use Rattle.tsm_parse.proofs.ProgramLaws.{part_good, all_good}
 
 -- no room

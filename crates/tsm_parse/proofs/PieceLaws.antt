@@ -4,25 +4,18 @@ use Rattle.std.specs.Prelude.{◌||◌, ◌==◌, nat_lt, if◌then◌else◌, c
 use Rattle.std.specs.List.{prefix_len}
 use Rattle.std.proofs.lemmas.Bool.{eqb-true, ltb-true, ltb-false}
 use Rattle.std.proofs.lemmas.List.Folds.{length-prefix_len}
-use Rattle.grammar.specs.Outcomes.{no_end, cond_yes, cond_not}
+use Rattle.grammar.proofs.Outcomes.{no_end, cond_yes, cond_not}
+use Rattle.ila_base.proofs.TextLaws.{Begins}
 use Rattle.tsm_parse.specs.declared.token.Sort.{Sort}
 use Rattle.tsm_parse.specs.declared.piece.Piece.{Piece}
 use Rattle.tsm_parse.specs.declared.piece.Piece.TheVariants.{Skip, Token, Nothing}
-use Rattle.tsm_parse.specs.Words.{is_blank, is_in_line, is_letter, is_digit, is_token, sort_of}
+use Rattle.ila_base.specs.Bytes.{is_blank, is_in_line, is_letter, is_digit}
+use Rattle.tsm_parse.specs.Words.{is_token, sort_of}
 use Rattle.tsm_parse.specs.Tokens.{IsLine, Skips, blank, number_sign, slashes, IsLongest, BeginsNothing}
 use Rattle.tsm_parse.specs.Reading.{slashes_length, skip_length, token_length, sort_at, token_piece, skip_piece, piece_at}
 use Rattle.tsm_parse.proofs.TokenLaws.{apart, or_not, no_mark, mark_token}
 use Rattle.tsm_parse.proofs.FrontLaws.{IsLength}
 use Rattle.tsm_parse.proofs.LongestLaws.{token_is_length, token_sort}
-
--- the text begins with n bytes, at least one, that stand in the relation to the rest
-pub record Begins (R : List ℕ → List ℕ → Type 0) (n : ℕ) (text : List ℕ) : Type 0 where
-  pub bytes : List ℕ
-  pub rest : List ℕ
-  pub whole : text ≡ bytes ++ rest
-  pub count : n ≡ length bytes
-  pub some : 0 < n
-  pub holds : R bytes rest
 
 -- What is skipped
 
@@ -119,7 +112,7 @@ skip_first b xs false false false first second third some =
 fails_at : (test : ℕ → Bool) (b : ℕ) (v : Bool) → test b ≡ v → begins_skip b ≡ true → test 32 ≡ false → test 9 ≡ false → test 10 ≡ false → test 13 ≡ false → test 12 ≡ false → test 35 ≡ false → test 47 ≡ false → test b ≡ false
 fails_at test b false is skip f32 f9 f10 f13 f12 f35 f47 = is
 fails_at test b true is skip f32 f9 f10 f13 f12 f35 f47 =
-    let no_blank : is_blank b ≡ false = or_not _ _ (or_not _ _ (or_not _ _ (or_not _ _ (apart test b 32 is f32) (apart test b 9 is f9)) (apart test b 10 is f10)) (apart test b 13 is f13)) (apart test b 12 is f12) in
+    let no_blank : is_blank b ≡ false = or_not _ _ (or_not _ _ (or_not _ _ (or_not _ _ (apart test b 32 is f32) (apart test b 9 is f9)) (apart test b 10 is f10)) (apart test b 12 is f12)) (apart test b 13 is f13) in
     let none : begins_skip b ≡ false = or_not _ _ (or_not _ _ no_blank (apart test b 35 is f35)) (apart test b 47 is f47) in
     absurd (no_end (sym none ∙ skip))
 

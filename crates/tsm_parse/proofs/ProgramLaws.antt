@@ -3,17 +3,17 @@ use Rattle.std.specs.Prelude.{◌≡◌, refl, ℕ, zero, suc, true, false, List
 use Rattle.std.proofs.Common.{sym, ◌∙◌, ap}
 use Rattle.ila_base.specs.declared.compare.Op.{Op}
 use Rattle.ila_base.specs.declared.place.Place.{Place}
-use Rattle.grammar.specs.Rule.{Rule, continue, repeat}
+use Rattle.grammar.specs.Rule.{Rule, continue, repeat, Shrinks}
 use Rattle.grammar.specs.Rule.Outcome.{Took}
-use Rattle.grammar.specs.LoopLaws.{behind}
+use Rattle.grammar.proofs.LoopLaws.{behind}
 use Rattle.grammar.specs.Good.{Sight, sees, anything, at_end, or_else, Good}
-use Rattle.grammar.specs.Outcomes.{no_end}
-use Rattle.grammar.specs.TokenLaws.{term_good, token_good, pure_good, end_good}
-use Rattle.grammar.specs.SequenceLaws.{then_good}
-use Rattle.grammar.specs.ChoiceLaws.{widened, either_good, optional_good}
-use Rattle.grammar.specs.RepeatLaws.{HasNoEmpty, Shrinks, shrinks_by, repeat_good}
-use Rattle.grammar.specs.ListLaws.{list_good}
-use Rattle.grammar.specs.SortLaws.{within, excludes}
+use Rattle.grammar.proofs.Outcomes.{no_end}
+use Rattle.grammar.proofs.TokenLaws.{term_good, token_good, pure_good, end_good}
+use Rattle.grammar.proofs.SequenceLaws.{then_good}
+use Rattle.grammar.proofs.ChoiceLaws.{widened, either_good, optional_good}
+use Rattle.grammar.proofs.RepeatLaws.{HasNoEmpty, shrinks_by, repeat_good}
+use Rattle.grammar.proofs.ListLaws.{list_good}
+use Rattle.grammar.proofs.SortLaws.{within, excludes}
 use Rattle.tsm_parse.specs.declared.parts.Body.{Body}
 use Rattle.tsm_parse.specs.declared.parts.Branch.{Branch}
 use Rattle.tsm_parse.specs.declared.parts.Named.{Named}

@@ -4,7 +4,7 @@ use Rattle.std.specs.Prelude.{map, cond, ◌&&◌}
 use Rattle.std.specs.Str.{bytes_eq}
 use Rattle.std.proofs.lemmas.Bool.{eq-eqb, ne_eqb}
 use Rattle.std.proofs.lemmas.List.{at_drop_more, at_drop_all}
-use Rattle.grammar.specs.Outcomes.{no_end, cond_yes, cond_not}
+use Rattle.grammar.proofs.Outcomes.{no_end, cond_yes, cond_not}
 use Rattle.tsm_parse.specs.declared.bytes.Base.{Base}
 use Rattle.tsm_parse.specs.Constants.{is_digit, is_place}
 use Rattle.tsm_parse.specs.Words.{lower}

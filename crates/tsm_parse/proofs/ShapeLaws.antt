@@ -1,10 +1,14 @@
 -- What the sort of a token tells of its bytes.
-use Rattle.std.proofs.Common.{◌≡◌, ℕ, Bool, true, false, List, [], ◌∷◌, refl, sym, subst}
+use Rattle.std.proofs.Common.{◌≡◌, ℕ, Bool, true, false, List, [], ◌∷◌, refl, sym, ap, subst}
 use Rattle.std.specs.Prelude.{◌||◌, ◌==◌, if◌then◌else◌, codes}
-use Rattle.grammar.specs.Outcomes.{no_end}
+use Rattle.std.proofs.lemmas.Bool.{eqb-true}
+use Rattle.grammar.proofs.Outcomes.{no_end}
 use Rattle.tsm_parse.specs.declared.token.Sort.{Sort}
 use Rattle.tsm_parse.specs.declared.token.Sort.TheVariants.{Name, State, If, Then, ElseIf, Else, EndIf, Goto, Trigger, SetFlag, ClearFlag, IncrementCounter, ResetCounter, Register, Constant, Colon, Semicolon, LeftParenthesis, RightParenthesis, Equal, NotEqual, Less, LessEqual, Greater, GreaterEqual, AndAnd, OrOr}
 use Rattle.tsm_parse.specs.Words.{is_word, is_register, is_constant, is_mark, is_token, is_keyword, word_sort, single_sort, double_sort, mark_sort, sort_of}
+use Rattle.tsm_parse.specs.Lexemes.{same}
+use Rattle.tsm_parse.specs.ReadTree.{IsRegister}
+use Rattle.tsm_parse.proofs.TokenLaws.{and_left}
 
 -- a name is a word, and registers and constants are what they are called
 abbrev pub Shape : List ℕ → Sort → Type 0
@@ -80,3 +84,12 @@ token_shape bytes token = by_constant bytes (is_word bytes) (is_register bytes) 
 -- where the sort is known
 pub shape_as : (bytes : List ℕ) (sort : Sort) → is_token bytes ≡ true → sort ≡ sort_of bytes → Shape bytes sort
 shape_as bytes sort token sorted = subst (Shape bytes) (sym sorted) (token_shape bytes token)
+
+-- the bytes of a register
+pub register_bytes : (bytes : List ℕ) (sort : Sort) → Shape bytes sort → same Register sort ≡ true → is_register bytes ≡ true
+register_bytes bytes Register shape test = shape
+register_bytes bytes sort shape test = absurd (no_end test)
+
+pub register_begins : (bytes : List ℕ) → is_register bytes ≡ true → IsRegister bytes
+register_begins [] is = absurd (no_end is)
+register_begins (b ∷ bytes) is = (bytes, ap (λ c. c ∷ bytes) (eqb-true b 36 (and_left (b == 36) (is_word bytes) is)))

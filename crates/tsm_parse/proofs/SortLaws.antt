@@ -1,6 +1,6 @@
 -- The sorts of tokens.
 use Rattle.std.specs.Prelude.{◌≡◌, Bool, true, List, [], ◌∷◌}
-use Rattle.grammar.specs.SortLaws.{Sorts, every, later, and_first}
+use Rattle.grammar.proofs.SortLaws.{Sorts, every, later, and_first}
 use Rattle.tsm_parse.specs.declared.token.Sort.{Sort}
 use Rattle.tsm_parse.specs.declared.token.Sort.TheVariants.{Name, State, If, Then, ElseIf, Else, EndIf, Goto, Trigger, SetFlag, ClearFlag, IncrementCounter, ResetCounter, Register, Constant, Colon, Semicolon, LeftParenthesis, RightParenthesis, Equal, NotEqual, Less, LessEqual, Greater, GreaterEqual, AndAnd, OrOr}
 use Rattle.tsm_parse.specs.Lexemes.{Lexeme}

@@ -58,3 +58,13 @@ tokens_within text tokens fault c = cut_within c (length text) (omega arith)
 
 pub tokens_sorted : (text : List ℕ) (tokens : List Token) (fault : Option Place) → Cuts [] text tokens fault → All (IsTokenIn text) tokens
 tokens_sorted text tokens fault c = cut_sorted c text refl
+
+-- each token has a byte of its own
+cut_few : {before text : List ℕ} {tokens : List Token} {fault : Option Place} → Cuts before text tokens fault → length tokens ≤ length text
+cut_few (ends none no_tokens no_fault) = omega (arith, ap length no_tokens)
+cut_few (skips bytes rest same s more) = omega (arith, cut_few more, ap length same, length-append bytes rest)
+cut_few (takes bytes rest tokens same t is more) = omega (arith, cut_few more, ap length same, length-append bytes rest, ap length is, t.some)
+cut_few (stops nothing no_tokens is) = omega (arith, ap length no_tokens)
+
+pub tokens_few : (text : List ℕ) (tokens : List Token) (fault : Option Place) → Cuts [] text tokens fault → length tokens ≤ length text
+tokens_few text tokens fault c = cut_few c

@@ -3,12 +3,13 @@ use Rattle.std.proofs.Common.{◌≡◌, ℕ, zero, suc, ◌+◌, ◌<◌, ◌�
 use Rattle.std.specs.Prelude.{cond, ◌&&◌, ◌||◌, ◌==◌, nat_le, is_some, Option, Some, None, option_and_then}
 use Rattle.std.specs.List.{list_all, prefix_len}
 use Rattle.std.proofs.lemmas.Bool.{eqb-true, leb-true, lt-leb}
-use Rattle.grammar.specs.Outcomes.{no_end, cond_not}
+use Rattle.grammar.proofs.Outcomes.{no_end, cond_not}
 use Rattle.tsm_parse.specs.declared.bytes.Base.{Base}
 use Rattle.tsm_parse.specs.declared.bytes.Base.TheVariants.{Decimal}
 use Rattle.tsm_parse.specs.Constants as constants
-use Rattle.tsm_parse.specs.Constants.{is_between, constant_of, is_numeral, is_no_quote, before_quote, behind_quote, sized_of, sized_with, base_of, is_place, passes_at}
-use Rattle.tsm_parse.specs.Words.{is_letter, is_digit, is_word_byte, is_word, is_register, is_constant, is_mark, is_token}
+use Rattle.ila_base.specs.Bytes.{is_between, is_letter, is_digit, is_word_byte}
+use Rattle.tsm_parse.specs.Constants.{constant_of, is_numeral, is_no_quote, before_quote, behind_quote, sized_of, sized_with, base_of, is_place, passes_at}
+use Rattle.tsm_parse.specs.Words.{is_word, is_register, is_constant, is_mark, is_token}
 
 -- Tests
 

@@ -1,8 +1,8 @@
--- What digits stand for, one after the other, and the digits of a number.
-use Rattle.std.proofs.Common.{◌≡◌, ℕ, zero, suc, ◌+◌, ◌*◌, ◌/◌, ◌%◌, ◌^◌, ◌<◌, List, [], ◌∷◌, ◌++◌, Bool, true, false, refl, ap, sym, ◌∙◌, arith, length, length-append, get_or, take}
-use Rattle.std.specs.Prelude.{cond, map, reverse, not}
-use Rattle.std.specs.Int.Digits.{digits_of, number_from_digits_after}
-use Rattle.std.proofs.lemmas.Int.Digits.{digits_of_step, number_after_ge}
+-- The digits of a number, and those that are missing.
+use Rattle.std.proofs.Common.{◌≡◌, ℕ, zero, suc, ◌+◌, ◌/◌, ◌%◌, ◌<◌, List, [], ◌∷◌, ◌++◌, refl, ap, sym, ◌∙◌, arith, length, length-append, get_or, take}
+use Rattle.std.specs.Prelude.{map, reverse}
+use Rattle.std.specs.Int.Digits.{digits_of}
+use Rattle.std.proofs.lemmas.Int.Digits.{digits_of_step}
 use Rattle.std.proofs.lemmas.List.{reverse-append, map_push}
 use Rattle.std.specs.Prelude.{replicate, slice_get, unwrap_or}
 use Rattle.std.proofs.Math.Seq.{take-suc}
@@ -10,23 +10,7 @@ use Rattle.std.proofs.lemmas.List.{length-replicate}
 use Rattle.std.proofs.lemmas.Option.{unwrap_or-slice_get}
 use Rattle.ila_base.specs.declared.compare.Digit.{Digit}
 use Rattle.ila_base.specs.declared.compare.Digit.TheVariants.{Zero}
-use Rattle.tsm_parse.specs.Constants.{digit_value, is_underscore, digits_in, with_digit, bit_digit}
-
--- the total and the digits behind it
-abbrev pub value_after : ℕ → ℕ → List ℕ → ℕ
-value_after total size bytes = number_from_digits_after size total (map digit_value (digits_in bytes))
-
-by_byte : (total size b : ℕ) (rest : List ℕ) (u : Bool) → number_from_digits_after size (cond u total (total * size + digit_value b)) (map digit_value (digits_in rest))
-    ≡ number_from_digits_after size total (map digit_value (cond (not u) (b ∷ digits_in rest) (digits_in rest)))
-by_byte total size b rest true = refl
-by_byte total size b rest false = refl
-
-pub value_more : (total size b : ℕ) (rest : List ℕ) → value_after (with_digit total size b) size rest ≡ value_after total size (b ∷ rest)
-value_more total size b rest = by_byte total size b rest (is_underscore b)
-
--- where the digits so far stand for too much, all do
-pub overflow : (total size all : ℕ) (rest : List ℕ) → 0 < size → value_after total size rest ≡ all → all < 2 ^ 128 → total < 2 ^ 128
-overflow total size all rest positive same small = omega (arith, number_after_ge size total (map digit_value (digits_in rest)) positive)
+use Rattle.tsm_parse.specs.Constants.{bit_digit}
 
 -- The digits of a number, the lowest first
 

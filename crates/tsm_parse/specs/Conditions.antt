@@ -1,5 +1,6 @@
 -- The grammar of conditions (UG908, trigger state machine language).
-use Rattle.std.specs.Prelude.{ℕ, zero, suc, Bool, true, false, List, [], ◌∷◌, None, unwrap_or}
+use Rattle.std.specs.Prelude.{ℕ, zero, suc, ◌-◌, Bool, true, false, List, [], ◌∷◌, None, unwrap_or}
+use Rattle.ila_base.specs.declared.limits.TheConstants.{PARENTHESES}
 use Rattle.ila_base.specs.declared.compare.Op.{Op}
 use Rattle.ila_base.specs.declared.compare.Op.TheVariants.{Eq, Ne, Lt, Le, Gt, Ge}
 use Rattle.grammar.specs.Rule.{Rule, term, token, pure, ◌>>=◌, either, list}
@@ -138,6 +139,6 @@ abbrev pub part_within : ℕ → Rule Lexeme AstFormula
 part_within zero = comparison
 part_within (suc n) = either (is LeftParenthesis) (bracketed (any_over (part_within n))) comparison
 
--- "(" any ")" behind `if` or `elseif`: at most 64 parentheses are open at once, and this is one of them
+-- "(" any ")" behind `if` or `elseif`: this parenthesis is one of those that are open at once
 abbrev pub condition : Rule Lexeme AstFormula
-condition = bracketed (any_over (part_within 63))
+condition = bracketed (any_over (part_within (PARENTHESES - 1)))

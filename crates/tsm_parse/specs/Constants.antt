@@ -1,24 +1,16 @@
 -- Constants of trigger programs: what they are, and which digits they have.
-use Rattle.std.specs.Prelude.{ℕ, ◌+◌, ◌-◌, ◌*◌, ◌^◌, Bool, false, not, ◌&&◌, ◌||◌, ◌==◌, nat_le, nat_lt, min, List, [], ◌∷◌, map, filter, reverse, take, drop, replicate, length, slice_get, if◌then◌else◌, Option, Some, None, option_and_then}
+use Rattle.std.specs.Prelude.{ℕ, ◌+◌, ◌-◌, ◌^◌, Bool, false, not, ◌&&◌, ◌||◌, ◌==◌, nat_lt, min, List, [], ◌∷◌, map, reverse, take, drop, replicate, length, slice_get, if◌then◌else◌, Option, Some, None, option_and_then}
 use Rattle.std.specs.List.{prefix_len, list_all}
 use Rattle.std.specs.Option.{option_map_or}
-use Rattle.std.specs.Int.Digits.{digits_of, number_from_digits}
+use Rattle.std.specs.Int.Digits.{digits_of}
+use Rattle.ila_base.specs.declared.limits.TheConstants.{CONSTANT_BITS}
+use Rattle.ila_base.specs.Bytes as classes
+use Rattle.ila_base.specs.Bytes.{digit_value, is_underscore, digits_in, value}
 use Rattle.ila_base.specs.declared.compare.Digit.{Digit}
 use Rattle.ila_base.specs.declared.compare.Digit.TheVariants.{Zero, One, Any, Rise, Fall, Both, Steady}
 use Rattle.tsm_parse.specs.declared.bytes.Base.{Base}
 use Rattle.tsm_parse.specs.declared.bytes.Base.TheVariants.{Binary, Decimal, Hexadecimal}
 use Rattle.tsm_parse.specs.declared.types.Constant.{Constant}
-
-abbrev pub is_between : ℕ → ℕ → ℕ → Bool
-is_between low high b = nat_le low b && nat_le b high
-
--- what a digit stands for; 16, which is no digit's value, for every other byte
-abbrev pub digit_value : ℕ → ℕ
-digit_value b =
-    if is_between 48 57 b then b - 48
-    else (if is_between 97 102 b then b - 87
-    else (if is_between 65 70 b then b - 55
-    else 16))
 
 -- a binary digit: 0, 1, X, R, F, B or N, the letters in either case (UG908, compare values)
 abbrev pub is_binary : ℕ → Bool
@@ -27,12 +19,8 @@ is_binary b = b == 48 || b == 49 || b == 120 || b == 88 || b == 114 || b == 82 |
 -- a byte is a digit of the base
 abbrev pub is_digit : Base → ℕ → Bool
 is_digit Binary b = is_binary b
-is_digit Decimal b = is_between 48 57 b
+is_digit Decimal b = classes.is_digit b
 is_digit Hexadecimal b = nat_lt (digit_value b) 16
-
--- `_`, which stands for nothing
-abbrev pub is_underscore : ℕ → Bool
-is_underscore b = b == 95
 
 abbrev pub is_place : Base → ℕ → Bool
 is_place base b = is_digit base b || is_underscore b
@@ -45,24 +33,12 @@ passes_at test bytes place = option_map_or test (slice_get bytes place) false
 abbrev pub is_numeral : Base → List ℕ → Bool
 is_numeral base bytes = list_all (is_place base) bytes && passes_at (is_digit base) bytes 0 && passes_at (is_digit base) bytes (length bytes - 1)
 
--- the digits alone
-abbrev pub digits_in : List ℕ → List ℕ
-digits_in bytes = filter (λ b. not (is_underscore b)) bytes
-
--- what the digits stand for in the base of this size
-abbrev pub value : ℕ → List ℕ → ℕ
-value size bytes = number_from_digits size (map digit_value (digits_in bytes))
-
--- what the digits so far and one more byte stand for
-abbrev pub with_digit : ℕ → ℕ → ℕ → ℕ
-with_digit total size b = if is_underscore b then total else total * size + digit_value b
-
 -- the digits of a number, the lowest first, without leading zeros: so 0 has none
 abbrev pub bit_digit : ℕ → Digit
 bit_digit bit = if bit == 0 then Zero else One
 
 abbrev pub digits_of_number : ℕ → List Digit
-digits_of_number n = if nat_lt n (2 ^ 128) then reverse (map bit_digit (digits_of 2 n)) else replicate 129 One
+digits_of_number n = if nat_lt n (2 ^ 128) then reverse (map bit_digit (digits_of 2 n)) else replicate (CONSTANT_BITS + 1) One
 
 -- a binary digit as written
 abbrev pub written_digit : ℕ → Digit
@@ -99,9 +75,9 @@ before_quote text = take (prefix_len is_no_quote text) text
 abbrev pub behind_quote : List ℕ → List ℕ
 behind_quote text = drop (prefix_len is_no_quote text + 1) text
 
--- a width above 128 is kept as 129
+-- a width above the greatest is kept as one more than that
 abbrev pub width_of : List ℕ → ℕ
-width_of bytes = min (value 10 bytes) 129
+width_of bytes = min (value 10 bytes) (CONSTANT_BITS + 1)
 
 abbrev pub sized_with : List ℕ → List ℕ → Base → Option Constant
 sized_with width digits base =

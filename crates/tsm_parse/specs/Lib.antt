@@ -6,5 +6,5 @@ pub mod Reading
 pub mod Lexemes
 pub mod Conditions
 pub mod Programs
-pub mod Giving
 pub mod Refusals
+pub mod ReadTree

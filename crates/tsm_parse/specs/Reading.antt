@@ -12,7 +12,8 @@ use Rattle.tsm_parse.specs.declared.piece.Piece.{Piece}
 use Rattle.tsm_parse.specs.declared.piece.Piece.TheVariants.{Skip, Token, Nothing}
 use Rattle.tsm_parse.specs.Constants as constants
 use Rattle.tsm_parse.specs.Constants.{is_place, passes_at, base_of}
-use Rattle.tsm_parse.specs.Words.{is_blank, is_newline, is_in_line, is_digit, is_letter, is_word_byte, word_sort, is_single, is_double, mark_sort}
+use Rattle.ila_base.specs.Bytes.{is_blank, is_in_line, is_digit, is_letter, is_word_byte}
+use Rattle.tsm_parse.specs.Words.{word_sort, is_single, is_double, mark_sort}
 
 -- one more byte of a numeral before so many that end in a digit
 abbrev pub digits_more : Bool → ℕ → ℕ
@@ -94,11 +95,6 @@ skip_piece text (suc n) = Skip (suc n)
 
 abbrev pub piece_at : List ℕ → Piece
 piece_at text = skip_piece text (skip_length text)
-
--- the place behind one more byte
-abbrev pub place_after : Place → ℕ → Place
-place_after place b =
-    if is_newline b then record { line = place.line + 1; col = 1 } else record { line = place.line; col = place.col + 1 }
 
 -- how many bytes a piece has
 abbrev pub bytes_of : Piece → ℕ

@@ -1,12 +1,14 @@
 -- What a trigger program is cut into: its tokens, each the longest that fits, up to the first byte that begins none.
-use Rattle.std.specs.Prelude.{◌≡◌, ◌≢◌, ℕ, ◌+◌, ◌<◌, ◌≤◌, true, false, List, [], ◌∷◌, ◌++◌, length, take, count_by, slice_range, codes, Option, Some, None}
-use Rattle.std.specs.List.{suffix_len, prefix_len}
+use Rattle.std.specs.Prelude.{◌≡◌, ◌≢◌, ℕ, ◌+◌, ◌<◌, ◌≤◌, true, false, List, [], ◌∷◌, ◌++◌, length, take, slice_range, codes, Option, Some, None}
+use Rattle.std.specs.List.{prefix_len}
 use Rattle.ila_base.specs.declared.place.Place.{Place}
 use Rattle.ila_base.specs.declared.refusal.TsmRefusal.TheVariants.{BadByte}
 use Rattle.tsm_parse.specs.declared.token.Token.{Token}
 use Rattle.tsm_parse.specs.declared.types.TsmStop.{TsmStop}
 use Rattle.tsm_parse.specs.declared.types.TsmStop.TheVariants.{Refused, NoMemory}
-use Rattle.tsm_parse.specs.Words.{is_blank, is_newline, is_in_line, is_token, sort_of}
+use Rattle.ila_base.specs.Bytes.{is_blank, is_in_line}
+use Rattle.ila_base.specs.Places.{place_behind}
+use Rattle.tsm_parse.specs.Words.{is_token, sort_of}
 
 -- before rest the bytes go to the end of the line
 abbrev pub IsLine : List ℕ → List ℕ → Type 0
@@ -30,11 +32,6 @@ pub record BeginsNothing (text : List ℕ) : Type 0 where
   pub some : text ≢ []
   pub no_token : (count : ℕ) → 0 < count → count ≤ length text → is_token (take count text) ≡ false
   pub no_skipped : (bytes rest : List ℕ) → text ≡ bytes ++ rest → Skips bytes rest → ⊥
-
--- the place of a byte that stands behind these: its line is counted by the newlines, its column by the bytes behind the last of
--- them, both from 1
-abbrev pub place_behind : List ℕ → Place
-place_behind before = record { line = count_by is_newline before + 1; col = suffix_len is_in_line before + 1 }
 
 -- the token of the bytes that stand behind these
 abbrev pub token_behind : List ℕ → List ℕ → Token

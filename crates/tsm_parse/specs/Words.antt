@@ -1,31 +1,12 @@
 -- The tokens of trigger programs: words, registers, constants and marks, what they are to the grammar, and what stands between
 -- them (UG908, trigger state machine language).
-use Rattle.std.specs.Prelude.{ℕ, ◌+◌, Bool, false, not, ◌&&◌, ◌||◌, ◌==◌, is_some, List, [], ◌∷◌, map, if◌then◌else◌, codes}
+use Rattle.std.specs.Prelude.{ℕ, ◌+◌, Bool, false, ◌&&◌, ◌||◌, ◌==◌, is_some, List, [], ◌∷◌, map, if◌then◌else◌, codes}
 use Rattle.std.specs.List.{list_all}
 use Rattle.std.specs.Str.{bytes_eq}
 use Rattle.tsm_parse.specs.declared.token.Sort.{Sort}
 use Rattle.tsm_parse.specs.declared.token.Sort.TheVariants.{Name, State, If, Then, ElseIf, Else, EndIf, Goto, Trigger, SetFlag, ClearFlag, IncrementCounter, ResetCounter, Register, Constant, Colon, Semicolon, LeftParenthesis, RightParenthesis, Equal, NotEqual, Less, LessEqual, Greater, GreaterEqual, AndAnd, OrOr}
-use Rattle.tsm_parse.specs.Constants.{is_between, constant_of}
-
--- white space: space, tab, newline, carriage return and form feed
-abbrev pub is_blank : ℕ → Bool
-is_blank b = b == 32 || b == 9 || b == 10 || b == 13 || b == 12
-
-abbrev pub is_newline : ℕ → Bool
-is_newline b = b == 10
-
--- a byte that doesn't end its line
-abbrev pub is_in_line : ℕ → Bool
-is_in_line b = not (is_newline b)
-
-abbrev pub is_digit : ℕ → Bool
-is_digit b = is_between 48 57 b
-
-abbrev pub is_letter : ℕ → Bool
-is_letter b = is_between 97 122 b || is_between 65 90 b || b == 95
-
-abbrev pub is_word_byte : ℕ → Bool
-is_word_byte b = is_letter b || is_digit b
+use Rattle.ila_base.specs.Bytes.{is_between, is_letter, is_word_byte}
+use Rattle.tsm_parse.specs.Constants.{constant_of}
 
 -- a letter or `_`, and then letters, digits and `_`
 abbrev pub is_word : List ℕ → Bool

@@ -2,6 +2,7 @@ ghost use Rattle.std.specs.Prelude.{◌≡◌};
 ghost use Rattle.tsm_parse.specs.Constants as constants;
 
 use ila_base::Digit;
+use ila_base::bytes::{digit_value, is_underscore};
 
 /// The base of a constant's digits.
 #[derive(Clone, Copy, Debug, PartialEq, Eq)]
@@ -23,18 +24,6 @@ pub fn base_of(letter: u8) -> Option<Base>
     }
 }
 
-/// What a digit stands for. 16 for a byte that is no digit.
-pub fn digit_value(byte: u8) -> u8
-    ensures { result ≡ constants.digit_value byte }
-{
-    match byte {
-        b'0'..=b'9' => byte - b'0',
-        b'a'..=b'f' => byte - b'a' + 10,
-        b'A'..=b'F' => byte - b'A' + 10,
-        _ => 16,
-    }
-}
-
 fn is_binary(byte: u8) -> bool
     ensures { result ≡ constants.is_binary byte }
 {
@@ -53,12 +42,6 @@ pub fn is_digit(base: Base, byte: u8) -> bool
         Base::Decimal => byte.is_ascii_digit(),
         Base::Hexadecimal => digit_value(byte) < 16,
     }
-}
-
-pub fn is_underscore(byte: u8) -> bool
-    ensures { result ≡ constants.is_underscore byte }
-{
-    byte == b'_'
 }
 
 /// Whether the byte may stand in a numeral of the base.

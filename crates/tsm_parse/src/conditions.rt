@@ -1,22 +1,22 @@
 ghost use Rattle.std.specs.Prelude.{◌≡◌};
-ghost use Rattle.grammar.specs.Rule.{list};
-ghost use Rattle.grammar.specs.ListLaws.{separated};
+ghost use Rattle.grammar.specs.Rule.{list, separated};
 ghost use Rattle.tsm_parse.specs.declared.token.Sort.TheVariants.{AndAnd, OrOr};
 ghost use Rattle.tsm_parse.specs.Lexemes.{is};
 ghost use Rattle.tsm_parse.specs.Conditions as conditions;
 ghost use Rattle.tsm_parse.specs.Conditions.{left_first, constant_first, comparison, all_over, any_over, bracketed, part_within, condition};
-ghost use Rattle.tsm_parse.specs.Giving.{Gives};
+ghost use Rattle.grammar.specs.Giving.{Gives};
 
 use crate::parser::Parser;
 use crate::parts::{Named, Valued};
-use crate::stop::Stop;
 use crate::token::Sort;
 use crate::types::{AstFormula, AstTest};
+use grammar::Stop;
+use ila_base::limits::PARENTHESES;
 use ila_base::{Items, Op};
 use std::alloc::Global;
 
 /// How many parentheses may be open at once behind that of `if`.
-const DEEPEST: u8 = 63;
+const DEEPEST: u8 = PARENTHESES - 1;
 
 /// The operator with its sides turned round.
 fn turned(op: Op) -> Op

@@ -4,9 +4,11 @@ ghost use Rattle.std.specs.Option.{SomeIff};
 ghost use Rattle.tsm_parse.specs.declared.bytes.Base.TheVariants.{Binary};
 ghost use Rattle.tsm_parse.specs.Constants as constants;
 
-use crate::bytes::{Base, base_of, digit_value, is_digit, is_place, is_underscore, written_digit};
+use crate::bytes::{Base, base_of, is_digit, is_place, written_digit};
 use crate::types::Constant;
-use ila_base::{Digit, Digits, NoMemory};
+use ila_base::bytes::is_underscore;
+use ila_base::limits::CONSTANT_BITS;
+use ila_base::{Digit, Digits, NoMemory, numeral_value};
 use std::alloc::Global;
 
 /// The constant that the text is (UG908, compare values). None comes exactly where it is none.
@@ -101,35 +103,10 @@ fn ends_as(base: Base, bytes: &[u8]) -> bool
 fn width_of(bytes: &[u8]) -> u32
     ensures { result ≡ constants.width_of bytes.now }
 {
-    match value(10, bytes) {
-        Some(width) if width < 129 => width as u32,
-        _ => 129,
+    match numeral_value(10, bytes) {
+        Some(width) if width <= u128::from(CONSTANT_BITS) => width as u32,
+        _ => u32::from(CONSTANT_BITS) + 1,
     }
-}
-
-// What the digits stand for. None for 2 to the 128 and more.
-fn value(size: u8, bytes: &[u8]) -> Option<u128>
-    requires { 0 < size }
-    ensures { SomeIff result (constants.value size bytes.now < 2 ^ 128) (constants.value size bytes.now) }
-{
-    let mut total = 0;
-    for byte in bytes {
-        total = with_digit(total, size, *byte)?;
-    }
-    Some(total)
-}
-
-// A number with one more digit behind it, or as it was where the byte is a `_`. None where that has
-// no 128 bits.
-fn with_digit(total: u128, size: u8, byte: u8) -> Option<u128>
-    ensures { SomeIff result (constants.with_digit total size byte < 2 ^ 128) (constants.with_digit total size byte) }
-{
-    if is_underscore(byte) {
-        return Some(total);
-    }
-    total
-        .checked_mul(u128::from(size))?
-        .checked_add(u128::from(digit_value(byte)))
 }
 
 // The digits that a numeral stands for.
@@ -138,8 +115,8 @@ fn digits_with(alloc: Global, base: Base, bytes: &[u8]) -> Result<Digits, NoMemo
 {
     let list = match base {
         Base::Binary => written(alloc, bytes)?,
-        Base::Decimal => digits_of_value(alloc, value(10, bytes))?,
-        Base::Hexadecimal => digits_of_value(alloc, value(16, bytes))?,
+        Base::Decimal => digits_of_value(alloc, numeral_value(10, bytes))?,
+        Base::Hexadecimal => digits_of_value(alloc, numeral_value(16, bytes))?,
     };
     Ok(Digits::new(list))
 }
@@ -158,13 +135,13 @@ fn written(alloc: Global, bytes: &[u8]) -> Result<Vec<Digit>, NoMemory>
     Ok(list)
 }
 
-// The digits of a value, or 129 digits 1 where it is 2 to the 128 or more.
+// The digits of a value, or one more digit 1 than a constant has bits where it is 2 to the 128 or more.
 fn digits_of_value(alloc: Global, value: Option<u128>) -> Result<Vec<Digit>, NoMemory>
     ensures { (n : ℕ) → SomeIff value (n < 2 ^ 128) n → IfOk result (λ list. list.items ≡ constants.digits_of_number n) }
 {
     match value {
         Some(number) => bits_of(alloc, number),
-        None => Ok(vec![in alloc; Digit::One; 129]?),
+        None => Ok(vec![in alloc; Digit::One; usize::from(CONSTANT_BITS) + 1]?),
     }
 }
 

@@ -1,8 +1,10 @@
 ghost use Rattle.std.specs.Prelude.{◌≡◌, ℕ, ◌≤◌, ◌<◌, IfOk, slice_get, unwrap_or};
 ghost use Rattle.ila_base.specs.declared.compare.Digit.TheVariants.{Zero};
+ghost use Rattle.ila_base.specs.declared.limits.TheConstants.{CONSTANT_BITS};
 ghost use Rattle.tsm_parse.specs.Fitting as fitting;
 
 use crate::types::Constant;
+use ila_base::limits::CONSTANT_BITS;
 use ila_base::{Digit, Digits, NoMemory};
 use std::alloc::Global;
 
@@ -11,7 +13,7 @@ use std::alloc::Global;
 /// at or above it, or at or above the width asked for, isn't 0.
 pub fn fit(alloc: Global, constant: &Constant, width: u32) -> Result<Option<Digits>, NoMemory>
     requires low { 1 ≤ width }
-    requires high { width ≤ 128 }
+    requires high { width ≤ CONSTANT_BITS }
     ensures { IfOk result (λ found. found ≡ fitting.fit_of constant.now width) }
 {
     if !fits(constant, width) {
@@ -33,7 +35,9 @@ fn keeps_width(width: Option<u32>, digits: &[Digit]) -> bool
 {
     match width {
         None => true,
-        Some(width) => 1 <= width && width <= 128 && are_zero_from(width as usize, digits),
+        Some(width) => 1 <= width
+            && width <= u32::from(CONSTANT_BITS)
+            && are_zero_from(width as usize, digits),
     }
 }
 

@@ -3,8 +3,9 @@ ghost use Rattle.std.specs.Str.{bytes_eq};
 ghost use Rattle.tsm_parse.specs.Words.{is_keyword, word_sort, single_sort, double_sort, mark_sort, lower};
 ghost use Rattle.tsm_parse.specs.Reading.{sort_at};
 
-use crate::letters::{is_digit, is_letter, lower};
+use crate::letters::lower;
 use crate::token::Sort;
+use ila_base::bytes::{is_digit, is_letter};
 
 /// Whether the bytes are the keyword, which is in lower case, in any case.
 fn is_keyword(keyword: &[u8], bytes: &[u8]) -> bool

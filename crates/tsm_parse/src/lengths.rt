@@ -1,13 +1,12 @@
 ghost use Rattle.std.specs.Prelude.{◌≡◌, ℕ, ◌+◌, ◌^◌, ◌<◌, ◌≤◌, length};
 ghost use Rattle.std.specs.List.{prefix_len};
-ghost use Rattle.tsm_parse.specs.Words as words;
+ghost use Rattle.ila_base.specs.Bytes.{is_word_byte};
 ghost use Rattle.tsm_parse.specs.Reading.{digits_end, numeral_length, based_length, suffix_length, constant_length, register_length, mark_length, token_length, skip_length};
 
 use crate::bytes::{Base, base_of, is_digit as is_digit_of, is_place};
 use crate::digits::begins_as;
-use crate::letters::{
-    is_blank, is_digit, is_double, is_letter, is_newline, is_single, is_word_byte,
-};
+use crate::letters::{is_double, is_single};
+use ila_base::bytes::{is_blank, is_digit, is_letter, is_word_byte, line_length};
 
 /// How many bytes of the text are digits of the base and `_`, of which the last is a digit.
 fn digits_end(base: Base, text: &[u8]) -> usize
@@ -72,7 +71,7 @@ fn constant_length(text: &[u8]) -> usize
 }
 
 fn word_length(text: &[u8]) -> usize
-    ensures value { result ≡ prefix_len words.is_word_byte text.now }
+    ensures value { result ≡ prefix_len is_word_byte text.now }
     ensures within { result ≤ length text.now }
 {
     text.iter().take_while(|byte| is_word_byte(**byte)).count()
@@ -118,14 +117,6 @@ pub fn token_length(text: &[u8]) -> usize
     } else {
         mark_length(text)
     }
-}
-
-/// How many bytes there are to the end of the line.
-fn line_length(text: &[u8]) -> usize
-    ensures value { result ≡ prefix_len words.is_in_line text.now }
-    ensures within { result ≤ length text.now }
-{
-    text.iter().take_while(|byte| !is_newline(**byte)).count()
 }
 
 /// How many bytes are skipped that the text begins with: a byte of white space, or a comment, which

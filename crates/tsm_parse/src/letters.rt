@@ -1,38 +1,5 @@
 ghost use Rattle.std.specs.Prelude.{◌≡◌};
-ghost use Rattle.tsm_parse.specs.Words.{is_blank, is_newline, is_letter, is_digit, is_word_byte, is_single, is_double, lower};
-
-/// Whether the byte is white space: space, tab, newline, carriage return or form feed.
-pub fn is_blank(byte: u8) -> bool
-    ensures { result ≡ is_blank byte }
-{
-    matches!(byte, b' ' | b'\t' | b'\n' | b'\r' | 0x0c)
-}
-
-pub fn is_newline(byte: u8) -> bool
-    ensures { result ≡ is_newline byte }
-{
-    byte == b'\n'
-}
-
-/// Whether a word may begin with the byte.
-pub fn is_letter(byte: u8) -> bool
-    ensures { result ≡ is_letter byte }
-{
-    matches!(byte, b'a'..=b'z' | b'A'..=b'Z' | b'_')
-}
-
-pub fn is_digit(byte: u8) -> bool
-    ensures { result ≡ is_digit byte }
-{
-    byte.is_ascii_digit()
-}
-
-/// Whether a word may go on with the byte.
-pub fn is_word_byte(byte: u8) -> bool
-    ensures { result ≡ is_word_byte byte }
-{
-    is_letter(byte) || is_digit(byte)
-}
+ghost use Rattle.tsm_parse.specs.Words.{is_single, is_double, lower};
 
 /// The lower-case letter of a letter in either case. Any other byte is as it is.
 pub fn lower(byte: u8) -> u8

@@ -1,10 +1,10 @@
 ghost use Rattle.std.specs.Prelude.{◌≡◌, ℕ, List, [], ◌+◌, ◌^◌, ◌<◌, ◌≤◌, Some, None, length, All, IfOk, IfErr};
+ghost use Rattle.ila_base.specs.declared.limits.TheConstants.{SMALL_FILE_BYTES};
 ghost use Rattle.tsm_parse.specs.declared.token.Token.{Token as TokenOf};
 ghost use Rattle.tsm_parse.specs.Reading.{bytes_of, IsTaken, IsNothing};
 ghost use Rattle.tsm_parse.specs.Tokens.{Cuts, StopsAt, IsWithin, RiseFrom, IsTokenIn};
 
 use crate::piece::{Piece, piece_at};
-use crate::place::place_behind;
 use crate::token::Token;
 use crate::types::{TsmFault, TsmStop};
 use ila_base::{Place, TsmRefusal};
@@ -47,7 +47,7 @@ fn take_piece(
 ///
 /// A text is refused at the place of its first byte that begins nothing (Q1).
 pub fn tokens(alloc: Global, text: &[u8]) -> Result<Vec<Token>, TsmStop>
-    requires { length text.now ≤ 1048576 }
+    requires { length text.now ≤ SMALL_FILE_BYTES }
 
     // The text is cut to its end into these tokens, and into no others (`one_reading`).
     ensures found { IfOk result (λ tokens. Cuts [] text.now tokens.items None) }
@@ -60,14 +60,14 @@ pub fn tokens(alloc: Global, text: &[u8]) -> Result<Vec<Token>, TsmStop>
     ensures sorted { IfOk result (λ tokens. All (IsTokenIn text.now) tokens.items) }
 {
     let mut tokens = Vec::new(alloc);
-    let mut place = Place { line: 1, col: 1 };
+    let mut place = Place::START;
     let mut at = 0;
     while at < text.len() {
-        let rest = &text[at..];
-        let piece = piece_at(rest);
+        let piece = piece_at(&text[at..]);
         let count = take_piece(&mut tokens, at, place, piece)?;
-        place = place_behind(place, &rest[..count]);
-        at += count;
+        let end = at + count;
+        place = place.further(text, at, end);
+        at = end;
     }
     Ok(tokens)
 }

@@ -15,12 +15,10 @@ mod lexer;
 mod parser;
 mod parts;
 mod piece;
-mod place;
 mod programs;
 #[cfg(test)]
 mod rows;
 mod source;
-mod stop;
 #[cfg(test)]
 mod tests;
 mod token;

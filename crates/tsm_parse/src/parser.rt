@@ -4,13 +4,13 @@ ghost use Rattle.grammar.specs.Rule.{looks, first, end};
 ghost use Rattle.tsm_parse.specs.Lexemes.{is, of_sort, lexemes, place_of, AreWithin};
 ghost use Rattle.tsm_parse.specs.Conditions.{mark, name, register, left, constant, constant_of_bytes, operator};
 ghost use Rattle.tsm_parse.specs.Programs.{is_act, act};
-ghost use Rattle.tsm_parse.specs.Giving.{Gives};
+ghost use Rattle.grammar.specs.Giving.{Gives};
 
 use crate::digits;
 use crate::parts::{Named, Valued};
-use crate::stop::Stop;
 use crate::token::{Sort, Token};
 use crate::types::{Act, Constant};
+use grammar::Stop;
 use ila_base::{Digits, Name, NoMemory, Op, Place};
 use std::alloc::Global;
 use std::marker::Model;

@@ -4,13 +4,13 @@ ghost use Rattle.tsm_parse.specs.declared.token.Sort.TheVariants.{ElseIf, Else, 
 ghost use Rattle.tsm_parse.specs.Lexemes.{is, of_sort};
 ghost use Rattle.tsm_parse.specs.Programs as programs;
 ghost use Rattle.tsm_parse.specs.Programs.{is_act, action, goto_end, trigger_end, block, branch, else_if, else_block, if_body, plain_body, body, state, states, program};
-ghost use Rattle.tsm_parse.specs.Giving.{Gives};
+ghost use Rattle.grammar.specs.Giving.{Gives};
 
 use crate::parser::Parser;
 use crate::parts::{Body, Branch};
-use crate::stop::Stop;
 use crate::token::Sort;
 use crate::types::{Act, Ast, AstBlock, AstState, End};
+use grammar::Stop;
 use ila_base::{Items, Name, NoMemory, Place};
 use std::alloc::Global;
 

@@ -1,37 +1,39 @@
 ghost use Rattle.std.specs.Prelude.{◌≡◌, ◌≤◌, None, length, IfOk, IfErr};
 ghost use Rattle.std.specs.Option.{option_map};
 ghost use Rattle.grammar.specs.Rule.{first};
+ghost use Rattle.ila_base.specs.declared.limits.TheConstants.{SMALL_FILE_BYTES};
 ghost use Rattle.tsm_parse.specs.Lexemes.{lexemes, AreWithin, place_of};
 ghost use Rattle.tsm_parse.specs.Programs.{IsProgram};
-ghost use Rattle.tsm_parse.specs.Refusals.{StandsFor, place_of_rest, IsSyntaxFault, IsRefusal, StopsFor};
+ghost use Rattle.grammar.specs.Faults.{place_of_rest};
+ghost use Rattle.ila_base.specs.Places.{place_behind};
+ghost use Rattle.tsm_parse.specs.ReadTree.{IsReadTree};
+ghost use Rattle.tsm_parse.specs.Refusals.{StandsFor, IsSyntaxFault, IsRefusal, StopsFor};
 
 use crate::lexer::tokens;
 use crate::parser::Parser;
-use crate::place::place_behind;
-use crate::stop::Stop;
 use crate::token::Token;
 use crate::types::{Ast, TsmFault, TsmStop};
+use grammar::Stop;
+use ila_base::limits::SMALL_FILE_BYTES;
 use ila_base::{Place, TsmRefusal};
 use std::alloc::Global;
 
-/// How many bytes a program has at most.
-const LONGEST_TEXT: usize = 1_048_576;
-
 /// The place of the next token, or that behind the text's last byte.
 fn place_or_end(text: &[u8], next: Option<Place>) -> Place
-    requires { length text.now ≤ 1048576 }
-    ensures { (rest : _) → next ≡ option_map place_of (first rest) → result ≡ place_of_rest text.now rest }
+    requires { length text.now ≤ SMALL_FILE_BYTES }
+    ensures { (rest : _) → next ≡ option_map place_of (first rest)
+        → result ≡ place_of_rest place_of (place_behind text.now) rest }
 {
     match next {
         Some(place) => place,
-        None => place_behind(Place { line: 1, col: 1 }, text),
+        None => Place::behind(text),
     }
 }
 
 /// The tree of the program that the tokens are, or the place at which they are those of none.
 fn read_program(alloc: Global, text: &[u8], tokens: &[Token]) -> Result<Ast, TsmStop>
     requires within { AreWithin (length text.now) tokens.now }
-    requires short { length text.now ≤ 1048576 }
+    requires short { length text.now ≤ SMALL_FILE_BYTES }
     ensures ok { IfOk result (IsProgram text.now tokens.now) }
     ensures err { IfErr result (StopsFor (IsSyntaxFault text.now tokens.now)) }
 {
@@ -55,11 +57,13 @@ fn read_program(alloc: Global, text: &[u8], tokens: &[Token]) -> Result<Ast, Tsm
 pub fn program(alloc: Global, text: &[u8]) -> Result<Ast, TsmStop>
     // The text stands for this tree, and for no other (`one_program`).
     ensures found { IfOk result (StandsFor text.now) }
-    ensures short { IfOk result (λ _. length text.now ≤ 1048576) }
+    // It is as the next layer asks.
+    ensures read { IfOk result IsReadTree }
+    ensures short { IfOk result (λ _. length text.now ≤ SMALL_FILE_BYTES) }
     // It is refused for the first cause alone.
     ensures refused { IfErr result (StopsFor (IsRefusal text.now)) }
 {
-    if text.len() > LONGEST_TEXT {
+    if text.len() > SMALL_FILE_BYTES {
         return Err(TsmStop::Refused(TsmFault {
             refusal: TsmRefusal::Syntax,
             place: Place::NOWHERE,

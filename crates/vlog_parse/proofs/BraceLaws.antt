@@ -1,8 +1,7 @@
 -- The braces in the words of expressions: as many are closed as are opened.
 use Rattle.std.proofs.Common.{◌≡◌, refl, sym, ◌∙◌, ap, ℕ, zero, suc, ◌+◌, Bool, true, false, List, [], ◌∷◌, ◌++◌, inl, inr, arith}
-use Rattle.grammar.specs.Rule.{Rule, term, pure, ◌>>=◌, either, AreWords, repeat}
+use Rattle.grammar.specs.Rule.{Rule, term, pure, ◌>>=◌, either, AreWords, repeat, separated}
 use Rattle.grammar.specs.Good.{Excludes, sees}
-use Rattle.grammar.specs.ListLaws.{separated}
 use Rattle.vlog_parse.specs.declared.tree.Expr.{Expr}
 use Rattle.vlog_parse.specs.declared.parts.Named.{Named}
 use Rattle.vlog_parse.specs.declared.sort.Sort.{Sort}
@@ -10,7 +9,7 @@ use Rattle.vlog_parse.specs.declared.sort.Sort.TheVariants.{LeftBrace, RightBrac
 use Rattle.vlog_parse.specs.Lexemes.{Lexeme}
 use Rattle.vlog_parse.specs.Expressions.{is, mark, name, number, part_behind, bit_behind, select_behind, reference, constant, operand, args, concatenation, expr_within}
 use Rattle.vlog_parse.specs.Skipping.{cut_within}
-use Rattle.grammar.specs.SortLaws.{excludes}
+use Rattle.grammar.proofs.SortLaws.{excludes}
 use Rattle.vlog_parse.proofs.SortLaws.{sorts}
 use Rattle.vlog_parse.proofs.DepthLaws.{cut_covers}
 

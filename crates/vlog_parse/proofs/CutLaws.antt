@@ -1,24 +1,22 @@
 -- Expressions that are cut at a depth.
 use Rattle.std.proofs.Common.{◌≡◌, refl, ◌∙◌, ap, ℕ, zero, suc, ◌+◌, true, false, List, arith}
-use Rattle.grammar.specs.Rule.{Rule, looks, continue}
+use Rattle.grammar.specs.Rule.{Rule, looks, continue, Shrinks, separated, Keeps}
 use Rattle.grammar.specs.Rule.Outcome.{Took}
-use Rattle.grammar.specs.Outcomes.{cond_yes, cond_not}
+use Rattle.grammar.proofs.Outcomes.{cond_yes, cond_not}
 use Rattle.grammar.specs.Good.{Good, sees, anything, or_else}
-use Rattle.grammar.specs.TokenLaws.{pure_good}
-use Rattle.grammar.specs.SequenceLaws.{then_good}
-use Rattle.grammar.specs.ChoiceLaws.{widened, either_good}
-use Rattle.grammar.specs.RepeatLaws.{Shrinks}
-use Rattle.grammar.specs.ListLaws.{separated}
-use Rattle.grammar.specs.NestLaws.{Keeps, good_keeps}
+use Rattle.grammar.proofs.TokenLaws.{pure_good}
+use Rattle.grammar.proofs.SequenceLaws.{then_good}
+use Rattle.grammar.proofs.ChoiceLaws.{widened, either_good}
+use Rattle.grammar.proofs.NestLaws.{good_keeps}
 use Rattle.vlog_parse.specs.declared.tree.Expr.{Expr}
 use Rattle.vlog_parse.specs.declared.sort.Sort.TheVariants.{LeftBrace, Name, Sized, Comma}
 use Rattle.vlog_parse.specs.Lexemes.{Lexeme}
 use Rattle.vlog_parse.specs.Expressions.{is, mark, operand, concatenation, expr}
 use Rattle.vlog_parse.specs.Skipping.{skipped, cut_within}
-use Rattle.grammar.specs.SortLaws.{within, excludes}
+use Rattle.grammar.proofs.SortLaws.{within, excludes}
 use Rattle.vlog_parse.proofs.SortLaws.{sorts}
 use Rattle.vlog_parse.proofs.ExpressionLaws.{no_select, begins_expression, concatenation_good, operand_good, expr_over_good, expr_good}
-use Rattle.grammar.specs.LoopLaws.{separated_shrinks}
+use Rattle.grammar.proofs.LoopLaws.{separated_shrinks}
 
 -- no brace comes next
 pub cut_operand : (n : ℕ) (ts : List Lexeme) → looks (is LeftBrace) ts ≡ false → (cut_within n).read ts ≡ operand.read ts

@@ -1,7 +1,6 @@
 -- Expressions that are cut at a depth, and those of any depth.
 use Rattle.std.proofs.Common.{refl, sym, ◌∙◌, ap, subst, ℕ, zero, suc, ◌+◌, ◌≤◌, List, [], ◌∷◌, ◌++◌, inl, inr, arith, append-nil}
-use Rattle.grammar.specs.Rule.{AreWords}
-use Rattle.grammar.specs.ListLaws.{separated}
+use Rattle.grammar.specs.Rule.{AreWords, separated}
 use Rattle.vlog_parse.specs.declared.tree.Expr.{Expr}
 use Rattle.vlog_parse.specs.declared.tree.Expr.TheVariants.{Concat}
 use Rattle.vlog_parse.specs.declared.tree.Tree.{Tree}

@@ -3,12 +3,12 @@ use Rattle.std.specs.Prelude.{◌≡◌, refl, false, List, [], None}
 use Rattle.std.proofs.Common.{sym, ◌∙◌}
 use Rattle.grammar.specs.Rule.{Rule}
 use Rattle.grammar.specs.Good.{Sight, sees, anything, at_end, or_else, Good}
-use Rattle.grammar.specs.Outcomes.{no_end}
-use Rattle.grammar.specs.TokenLaws.{pure_good, end_good}
-use Rattle.grammar.specs.SequenceLaws.{then_good}
-use Rattle.grammar.specs.ChoiceLaws.{widened, either_good}
-use Rattle.grammar.specs.RepeatLaws.{HasNoEmpty, repeat_good}
-use Rattle.grammar.specs.ListLaws.{list_good}
+use Rattle.grammar.proofs.Outcomes.{no_end}
+use Rattle.grammar.proofs.TokenLaws.{pure_good, end_good}
+use Rattle.grammar.proofs.SequenceLaws.{then_good}
+use Rattle.grammar.proofs.ChoiceLaws.{widened, either_good}
+use Rattle.grammar.proofs.RepeatLaws.{HasNoEmpty, repeat_good}
+use Rattle.grammar.proofs.ListLaws.{list_good}
 use Rattle.vlog_parse.specs.declared.tree.Decl.{Decl}
 use Rattle.vlog_parse.specs.declared.tree.Expr.{Expr}
 use Rattle.vlog_parse.specs.declared.tree.Item.{Item}
@@ -22,7 +22,7 @@ use Rattle.vlog_parse.specs.Lexemes.{Lexeme}
 use Rattle.vlog_parse.specs.Expressions.{is, name, expr}
 use Rattle.vlog_parse.specs.Items.{of_sort, item}
 use Rattle.vlog_parse.specs.Design.{ansi, next_part, ansi_ports, plain_ports, some_ports, ports_list, header, body, module_over, design_over, design}
-use Rattle.grammar.specs.SortLaws.{excludes}
+use Rattle.grammar.proofs.SortLaws.{excludes}
 use Rattle.vlog_parse.proofs.SortLaws.{sample, sorts}
 use Rattle.vlog_parse.proofs.ExpressionLaws.{no_select, begins_expression, mark_good, name_good, expr_good}
 use Rattle.vlog_parse.proofs.ItemLaws.{direction_good, some_wire_good, some_range_good, begins_any_item, item_good}

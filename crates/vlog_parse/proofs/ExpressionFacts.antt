@@ -2,8 +2,8 @@
 use Rattle.std.proofs.Common.{◌≡◌, sym, ◌∙◌, ap, subst, ℕ, zero, suc, ◌+◌, ◌<◌, ◌≤◌, true, List, [], ◌∷◌, ◌++◌, length, arith}
 use Rattle.std.specs.List.{flat_map}
 use Rattle.grammar.specs.Rule.{Rule, ◌>>=◌, pure}
-use Rattle.grammar.specs.ChoiceLaws.{or_left, or_right}
-use Rattle.grammar.specs.YieldLaws.{Fact, Yields, AreAll, any_yields, term_yields, pure_yields, then_yields, either_yields, list_yields, all_append, all_within}
+use Rattle.grammar.proofs.ChoiceLaws.{or_left, or_right}
+use Rattle.grammar.proofs.YieldLaws.{Fact, Yields, AreAll, any_yields, term_yields, pure_yields, then_yields, either_yields, list_yields, all_append, all_within}
 use Rattle.vlog_parse.specs.declared.parts.Named.{Named}
 use Rattle.vlog_parse.specs.declared.sort.Sort.{Sort}
 use Rattle.vlog_parse.specs.declared.sort.Sort.TheVariants.{Name, Sized, LeftBracket, RightBracket, LeftBrace, RightBrace, Comma, Colon}
@@ -13,7 +13,7 @@ use Rattle.vlog_parse.specs.declared.tree.Range.{Range}
 use Rattle.vlog_parse.specs.Lexemes.{Lexeme}
 use Rattle.vlog_parse.specs.Expressions.{is, mark, named, name, number, range, part_behind, bit_behind, select_behind, reference, constant_of, constant, operand, args, concatenation, expr_over, expr_within, expr}
 use Rattle.vlog_parse.specs.Leaves.{Leaf, Net as NetLeaf, Bit as BitLeaf, Part as PartLeaf, Fixed as FixedLeaf, leaves}
-use Rattle.vlog_parse.specs.LeafLaws.{leaves-Whole, leaves-Bit, leaves-Part, leaves-Const, leaves-Concat}
+use Rattle.vlog_parse.proofs.LeafLaws.{leaves-Whole, leaves-Bit, leaves-Part, leaves-Const, leaves-Concat}
 use Rattle.vlog_parse.specs.Limits.{opens_index}
 use Rattle.vlog_parse.specs.ReadTree.{IsSpelled, IsReadLeaf}
 use Rattle.vlog_parse.proofs.LexemeLaws.{IsReadPart, read_part}

@@ -1,14 +1,14 @@
 -- The rules of names, ranges and expressions are exact.
 use Rattle.std.specs.Prelude.{◌≡◌, refl, ℕ, zero, suc, ◌+◌, ◌-◌, ◌≤◌, Bool, true, not, List, [], ◌∷◌, length, cond}
 use Rattle.std.proofs.Common.{ap, subst, inl, inr, arith}
-use Rattle.grammar.specs.Rule.{Rule, looks, pure, ◌>>=◌}
+use Rattle.grammar.specs.Rule.{Rule, looks, pure, ◌>>=◌, Keeps}
 use Rattle.grammar.specs.Good.{Sight, IsWithin, Excludes, sees, anything, or_else, Good}
-use Rattle.grammar.specs.TokenLaws.{term_good, token_good, pure_good}
-use Rattle.grammar.specs.SequenceLaws.{then_good}
-use Rattle.grammar.specs.ChoiceLaws.{widened, either_good}
-use Rattle.grammar.specs.BoundLaws.{unbounded_good}
-use Rattle.grammar.specs.ListLaws.{list_good}
-use Rattle.grammar.specs.NestLaws.{IsPart, list_rises, SameTo, Keeps, good_keeps, then_same, behind_same, list_same}
+use Rattle.grammar.proofs.TokenLaws.{term_good, token_good, pure_good}
+use Rattle.grammar.proofs.SequenceLaws.{then_good}
+use Rattle.grammar.proofs.ChoiceLaws.{widened, either_good}
+use Rattle.grammar.proofs.BoundLaws.{unbounded_good}
+use Rattle.grammar.proofs.ListLaws.{list_good}
+use Rattle.grammar.proofs.NestLaws.{IsPart, list_rises, SameTo, good_keeps, then_same, behind_same, list_same}
 use Rattle.vlog_parse.specs.declared.tree.Range.{Range}
 use Rattle.vlog_parse.specs.declared.tree.Expr.{Expr}
 use Rattle.vlog_parse.specs.declared.tree.Expr.TheVariants.{Concat}
@@ -19,7 +19,7 @@ use Rattle.vlog_parse.specs.Sorts.{same, begins_expr}
 use Rattle.vlog_parse.specs.Lexemes.{Lexeme}
 use Rattle.vlog_parse.specs.Expressions.{is, mark, named, name, number_of, number, range, part_behind, bit_behind, select_behind, reference, constant_of, constant, operand, args, concatenation, expr_over, expr_within, expr}
 use Rattle.vlog_parse.specs.Items.{of_sort}
-use Rattle.grammar.specs.SortLaws.{within, excludes}
+use Rattle.grammar.proofs.SortLaws.{within, excludes}
 use Rattle.vlog_parse.proofs.SortLaws.{holds, sample, sorts}
 
 -- anything but a token that passes

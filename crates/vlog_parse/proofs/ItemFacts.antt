@@ -2,7 +2,7 @@
 use Rattle.std.proofs.Common.{◌≡◌, refl, subst, ℕ, ◌<◌, ◌≤◌, true, List, [], map, arith, Option, Some, None}
 use Rattle.ila_base.specs.declared.place.Place.{Place}
 use Rattle.grammar.specs.Rule.{pure, list}
-use Rattle.grammar.specs.YieldLaws.{Fact, Yields, AreAll, IfAny, any_yields, term_yields, pure_yields, then_yields, either_yields, optional_yields, list_yields, all_map, all_within}
+use Rattle.grammar.proofs.YieldLaws.{Fact, Yields, AreAll, IfAny, any_yields, term_yields, pure_yields, then_yields, either_yields, optional_yields, list_yields, all_map, all_within}
 use Rattle.vlog_parse.specs.declared.parts.Linked.{Linked}
 use Rattle.vlog_parse.specs.declared.parts.Named.{Named}
 use Rattle.vlog_parse.specs.declared.parts.Terminals.{Terminals}

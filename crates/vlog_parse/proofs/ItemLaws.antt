@@ -2,10 +2,10 @@
 use Rattle.std.specs.Prelude.{refl, List, [], Option}
 use Rattle.grammar.specs.Rule.{Rule, list}
 use Rattle.grammar.specs.Good.{Sight, sees, anything, or_else, Good}
-use Rattle.grammar.specs.TokenLaws.{term_good, pure_good}
-use Rattle.grammar.specs.SequenceLaws.{then_good}
-use Rattle.grammar.specs.ChoiceLaws.{widened, either_good, optional_good}
-use Rattle.grammar.specs.ListLaws.{list_good}
+use Rattle.grammar.proofs.TokenLaws.{term_good, pure_good}
+use Rattle.grammar.proofs.SequenceLaws.{then_good}
+use Rattle.grammar.proofs.ChoiceLaws.{widened, either_good, optional_good}
+use Rattle.grammar.proofs.ListLaws.{list_good}
 use Rattle.vlog_parse.specs.declared.tree.Conns.{Conns}
 use Rattle.vlog_parse.specs.declared.tree.Dir.{Dir}
 use Rattle.vlog_parse.specs.declared.tree.Expr.{Expr}
@@ -21,7 +21,7 @@ use Rattle.vlog_parse.specs.Sorts.{is_direction, is_gate, begins_item, begins_ex
 use Rattle.vlog_parse.specs.Lexemes.{Lexeme}
 use Rattle.vlog_parse.specs.Expressions.{is, mark, name, range, args}
 use Rattle.vlog_parse.specs.Items.{of_sort, token_dir, direction, some_wire, some_range, port_items, net_items, pair, assign_items, token_gate, gate, some_name, place_of, terminals, gate_items, token_value, value, param, some_params, params_list, params, some_expr, conn, conns_by_name, conns_by_place, conns, linked, inst_items, item}
-use Rattle.grammar.specs.SortLaws.{within, excludes}
+use Rattle.grammar.proofs.SortLaws.{within, excludes}
 use Rattle.vlog_parse.proofs.SortLaws.{sample, sorts}
 use Rattle.vlog_parse.proofs.ExpressionLaws.{no_select, begins_expression, mark_good, name_good, range_good, args_good}
 

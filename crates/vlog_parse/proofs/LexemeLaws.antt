@@ -6,13 +6,14 @@ use Rattle.std.specs.Str.{bytes_eq}
 use Rattle.std.proofs.lemmas.Bool.Decides.{nat_tests}
 use Rattle.std.proofs.lemmas.List.{take_at, drop_at}
 use Rattle.std.proofs.lemmas.List.Elements.{All-head, All-tail}
-use Rattle.grammar.specs.YieldLaws.{Parted}
+use Rattle.grammar.proofs.YieldLaws.{Parted}
 use Rattle.ila_base.specs.declared.refusal.LimitKind.TheVariants.{Index}
-use Rattle.vlog_lex.specs.declared.token.NetFault.{NetFault}
+use Rattle.ila_base.specs.declared.fault.NetFault.{NetFault}
 use Rattle.vlog_lex.specs.declared.token.Token.{Token}
 use Rattle.vlog_lex.specs.declared.token.TokenKind.{TokenKind}
 use Rattle.vlog_lex.specs.declared.token.TokenKind.TheVariants.{Ident, Escaped, Number as NumberKind, Sized as SizedKind, Text as TextKind, Mark, Outside as OutsideKind}
-use Rattle.vlog_lex.specs.Bytes.{is_letter, is_name_byte, is_printable}
+use Rattle.ila_base.specs.Bytes.{is_letter}
+use Rattle.vlog_lex.specs.Bytes.{is_name_byte, is_printable}
 use Rattle.vlog_lex.specs.Runs.{IsRun}
 use Rattle.vlog_lex.specs.Pieces.{begins_as}
 use Rattle.vlog_lex.specs.Refusals.{IsAllowed}

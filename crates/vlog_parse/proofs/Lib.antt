@@ -20,3 +20,4 @@ mod ParseLaws
 mod RefusalLaws
 mod PartLaws
 mod SkipLaws
+pub mod LeafLaws

@@ -1,8 +1,8 @@
 -- A loop that reads lists and joins them: what it has and what is left are one reading.
 use Rattle.std.proofs.Common.{◌≡◌, refl, sym, ◌∙◌, ap, Bool, true, List, ◌++◌, append_assoc}
-use Rattle.grammar.specs.Rule.{Outcome, Rule, looks, continue, repeat}
+use Rattle.grammar.specs.Rule.{Outcome, Rule, looks, continue, repeat, Shrinks}
 use Rattle.grammar.specs.Rule.Outcome.{Took, Stuck}
-use Rattle.grammar.specs.RepeatLaws.{Shrinks, with_first, repeat_takes}
+use Rattle.grammar.proofs.RepeatLaws.{with_first, repeat_takes}
 use Rattle.vlog_parse.specs.declared.tree.Item.{Item}
 use Rattle.vlog_parse.specs.Lexemes.{Lexeme}
 use Rattle.vlog_parse.specs.Design.{joined}

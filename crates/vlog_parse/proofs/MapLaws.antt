@@ -1,7 +1,6 @@
 -- Words of one rule that are words of another, of a value that is told by the first one's.
 use Rattle.std.proofs.Common.{◌≡◌, refl, sym, subst, Bool, List, [], ◌∷◌, ◌++◌, Option, Some, None, inl, inr}
-use Rattle.grammar.specs.Rule.{Rule, token, pure, ◌>>=◌, either, AreWords, repeat, optional, list}
-use Rattle.grammar.specs.ListLaws.{separated}
+use Rattle.grammar.specs.Rule.{Rule, token, pure, ◌>>=◌, either, AreWords, repeat, optional, list, separated}
 use Rattle.vlog_parse.specs.Lexemes.{Lexeme}
 
 -- of which lists of tokens this is told, and what the values have to do with each other

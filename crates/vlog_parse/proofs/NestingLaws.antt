@@ -1,7 +1,6 @@
 -- Where few braces are open, nothing is cut: the tree is that of the text.
 use Rattle.std.proofs.Common.{◌≡◌, refl, sym, ◌∙◌, ap, subst, ℕ, zero, suc, ◌+◌, ◌≤◌, List, [], ◌∷◌, ◌++◌, inl, inr, arith, append_assoc}
-use Rattle.grammar.specs.Rule.{AreWords}
-use Rattle.grammar.specs.ListLaws.{separated}
+use Rattle.grammar.specs.Rule.{AreWords, separated}
 use Rattle.vlog_parse.specs.declared.tree.Expr.{Expr}
 use Rattle.vlog_parse.specs.declared.tree.Tree.{Tree}
 use Rattle.vlog_parse.specs.declared.sort.Sort.TheVariants.{LeftBrace, RightBrace, Comma}

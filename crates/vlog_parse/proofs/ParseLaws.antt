@@ -1,22 +1,21 @@
 -- From what the parser reads to what the text is.
-use Rattle.std.proofs.Common.{◌≡◌, refl, sym, ◌∙◌, ap, subst, ℕ, suc, Bool, true, false, cond, List, [], ◌∷◌, ◌++◌, length, arith, Option, Some, None, Err, All, find}
-use Rattle.std.specs.Option.{option_map}
-use Rattle.grammar.specs.Rule.{Rule, first, continue, read_end, repeat}
+use Rattle.std.proofs.Common.{◌≡◌, refl, sym, ◌∙◌, ap, subst, ℕ, suc, Bool, true, false, cond, List, [], ◌∷◌, ◌++◌, length, arith, Some, None, All, find}
+use Rattle.grammar.specs.Rule.{continue, read_end, repeat}
 use Rattle.grammar.specs.Rule.Outcome.{Took, Stuck}
 use Rattle.grammar.specs.Good.{IsRefusedAt}
-use Rattle.grammar.specs.Outcomes.{continued, took_rest, not_both_ways}
-use Rattle.grammar.specs.ListLaws.{stands_for, refused}
-use Rattle.vlog_lex.specs.declared.token.NetStop.{NetStop}
-use Rattle.vlog_lex.specs.declared.token.NetStop.TheVariants.{Refused, NoMemory}
+use Rattle.grammar.proofs.Outcomes.{continued, took_rest, not_both_ways}
+use Rattle.grammar.proofs.ListLaws.{stands_for, refused}
+use Rattle.ila_base.specs.declared.fault.NetStop.{NetStop}
+use Rattle.ila_base.specs.declared.fault.NetStop.TheVariants.{Refused, NoMemory}
 use Rattle.vlog_lex.specs.declared.token.Token.{Token}
 use Rattle.vlog_lex.specs.declared.token.TokenKind.{TokenKind}
 use Rattle.vlog_lex.specs.declared.token.TokenKind.TheVariants.{Ident, Escaped, Number as NumberKind, Sized as SizedKind, Text as TextKind, Mark, Outside as OutsideKind}
-use Rattle.vlog_lex.specs.Cutting.{IsReading, too_long, cut as cut_into, IsWithin, settled, place_behind, StopsFor}
+use Rattle.vlog_lex.specs.Cutting.{IsReading, too_long, cut as cut_into, IsWithin, settled}
+use Rattle.ila_base.specs.Places.{place_behind}
+use Rattle.ila_base.specs.Stops.{StopsFor}
 use Rattle.vlog_lex.proofs.TokenLaws.{tokens_within}
 use Rattle.vlog_parse.specs.declared.limits.Excess.{Excess}
-use Rattle.vlog_parse.specs.declared.stop.Stop.{Stop}
-use Rattle.vlog_parse.specs.declared.stop.Stop.TheVariants.{Syntax as SyntaxStop}
-use Rattle.vlog_parse.specs.Giving.{Gives}
+use Rattle.grammar.specs.Faults.{place_of_rest}
 use Rattle.vlog_parse.specs.declared.tree.Module.{Module}
 use Rattle.vlog_parse.specs.declared.tree.Tree.{Tree}
 use Rattle.vlog_parse.specs.declared.sort.Sort.TheVariants.{Module as ModuleWord, Outside}
@@ -29,7 +28,7 @@ use Rattle.vlog_parse.specs.Design.{module_over, design_over, design, IsDesign}
 use Rattle.vlog_parse.specs.Skipping.{cut}
 use Rattle.vlog_parse.specs.Limits.{IsWithinLimits, first_excess, AreClean}
 use Rattle.vlog_parse.specs.Sorts.{same}
-use Rattle.vlog_parse.specs.Parsing.{is_outside, construct_name, place_of_rest, HasNoOutside, IsConstructFault, IsSyntaxFault, IsLimitFault, IsRefusal, construct, IsReadAs}
+use Rattle.vlog_parse.specs.Parsing.{is_outside, construct_name, HasNoOutside, IsConstructFault, IsSyntaxFault, IsLimitFault, IsRefusal, construct, IsReadAs}
 use Rattle.vlog_parse.proofs.DesignLaws.{design_over_good}
 use Rattle.vlog_parse.proofs.PartLaws.{good_cut}
 use Rattle.vlog_parse.proofs.DepthLaws.{cut_is_design, design_is_cut}
@@ -76,10 +75,6 @@ ends_there ts after tree e =
 pub read_is_cut : (ts after : List Lexeme) (tree : Tree) → (design_over cut).read ts ≡ Took tree after → (design_over cut).words ts tree
 read_is_cut ts after tree e =
     stands_for (design_over cut) (design_over_good cut good_cut) ts tree (e ∙ ap (λ us. Took tree us) (ends_there ts after tree e))
-
--- a syntax error is where the reading is stuck
-pub gives_stuck : {A : Type 0} (rule : Rule Lexeme A) (ts after : List Lexeme) (stop : Stop) → Gives (rule.read ts) (Err stop) after → stop ≡ SyntaxStop → rule.read ts ≡ Stuck after
-gives_stuck rule ts after stop gives is = let P : Stop → Type 0 = λ s. Gives (rule.read ts) (Err s) after in subst P is gives
 
 -- what is refused of cut designs is refused of designs
 pub refused_there : (ts rest : List Lexeme) → (design_over cut).read ts ≡ Stuck rest → (front : List Lexeme) × (ts ≡ front ++ rest) × IsRefusedAt Lexeme Tree design.words front rest
@@ -146,15 +141,11 @@ construct_fault text tokens token name e is_name =
     let f : FindsAt tokens token = finds_some tokens token e in
     record { before = f.before; token = token; after = f.after; whole = f.whole; first = f.first; outside = f.outside; told = ap (λ n. record { refusal = Construct n; place = token.place }) is_name }
 
-pub end_place : (text : List ℕ) (place : Place) (next : Option Place) (rest : List Lexeme) → next ≡ None → next ≡ option_map place_of (first rest) → place ≡ place_behind text → place ≡ place_of_rest text rest
-end_place text place next [] none is_next is_end = is_end
-end_place text place next (t ∷ rest) none is_next is_end = absurd cc
-
-pub syntax_fault : (text : List ℕ) (tokens : List Token) (rest : List Lexeme) (place : Place) → HasNoOutside tokens → (design_over cut).read (lexemes text tokens) ≡ Stuck rest → place ≡ place_of_rest text rest
+pub syntax_fault : (text : List ℕ) (tokens : List Token) (rest : List Lexeme) (place : Place) → HasNoOutside tokens → (design_over cut).read (lexemes text tokens) ≡ Stuck rest → place ≡ place_of_rest place_of (place_behind text) rest
     → IsSyntaxFault text tokens (record { refusal = Syntax; place = place })
 syntax_fault text tokens rest place profile e is_place =
     let (front, whole, r) = refused_there (lexemes text tokens) rest e in
-    record { profile = profile; before = front; after = rest; whole = whole; refused = r; told = ap (λ p. record { refusal = Syntax; place = p }) is_place }
+    record { profile = profile; refusal = refl; refused = record { before = front; after = rest; whole = whole; refused = r; there = is_place } }
 
 pub limit_fault : (text : List ℕ) (tokens : List Token) (tree : Tree) (found : Excess) → HasNoOutside tokens → (design_over cut).words (lexemes text tokens) tree
     → first_excess 0 false (lexemes text tokens) ≡ Some found → IsLimitFault text tokens (record { refusal = Limit found.kind found.count; place = found.place })

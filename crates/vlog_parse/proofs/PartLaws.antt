@@ -1,13 +1,13 @@
 -- What the parts of lists leave when they are read.
 use Rattle.std.proofs.Common.{◌≡◌, refl, subst, ◌<◌, Bool, List, length, arith, Result}
-use Rattle.grammar.specs.Rule.{Outcome, Rule, list, repeat}
+use Rattle.grammar.specs.Rule.{Outcome, Rule, list, repeat, Shrinks, Keeps}
 use Rattle.grammar.specs.Good.{Good}
-use Rattle.grammar.specs.RepeatLaws.{Shrinks, shrinks_by}
-use Rattle.grammar.specs.NestLaws.{Keeps, good_keeps, times_same, list_same}
+use Rattle.grammar.proofs.RepeatLaws.{shrinks_by}
+use Rattle.grammar.proofs.NestLaws.{good_keeps, times_same, list_same}
 use Rattle.vlog_parse.specs.declared.tree.Expr.{Expr}
-use Rattle.vlog_parse.specs.declared.stop.Stop.{Stop}
+use Rattle.grammar.specs.declared.stop.Stop.{Stop}
 use Rattle.vlog_parse.specs.Lexemes.{Lexeme}
-use Rattle.vlog_parse.specs.Giving.{Gives}
+use Rattle.grammar.specs.Giving.{Gives}
 use Rattle.vlog_parse.specs.Readers.{rule_of, list_reader, repeat_reader}
 use Rattle.vlog_parse.specs.Expressions.{name}
 use Rattle.vlog_parse.specs.Items.{pair, terminals, param, conn, linked, item}

@@ -3,7 +3,7 @@ use Rattle.std.proofs.Common.{◌≡◌, refl, ◌∙◌, ap, ℕ, zero, suc, �
 use Rattle.std.specs.Prelude.{filter_map}
 use Rattle.std.specs.List.{cons_option}
 use Rattle.grammar.specs.Rule.{Rule}
-use Rattle.grammar.specs.YieldLaws.{Fact, Yields, AreAll, all_get, all_count}
+use Rattle.grammar.proofs.YieldLaws.{Fact, Yields, AreAll, all_get, all_count}
 use Rattle.vlog_parse.specs.declared.tree.Conns.{Conns}
 use Rattle.vlog_parse.specs.declared.tree.Decl.{Decl}
 use Rattle.vlog_parse.specs.declared.tree.Expr.{Expr}

@@ -1,16 +1,18 @@
 -- The tokens of a text have at most one refusal, and none where they have a tree.
-use Rattle.std.proofs.Common.{◌≡◌, refl, sym, ◌∙◌, ap, subst, ℕ, true, false, List, [], ◌∷◌, ◌++◌, append_assoc, append-nil, Some, None, inl, inr, ◌⊎◌}
-use Rattle.grammar.specs.Good.{IsRefusedAt}
-use Rattle.grammar.specs.Outcomes.{no_end}
+use Rattle.std.proofs.Common.{◌≡◌, refl, sym, ◌∙◌, ap, subst, ℕ, true, false, List, [], ◌∷◌, ◌++◌, append_assoc, append-nil, Some, None}
+use Rattle.grammar.proofs.FaultLaws.{one_syntax_fault, no_syntax_fault}
+use Rattle.ila_base.specs.Places.{place_behind}
+use Rattle.grammar.proofs.Outcomes.{no_end}
 use Rattle.vlog_lex.specs.declared.token.Token.{Token}
-use Rattle.vlog_lex.specs.declared.token.NetFault.{NetFault}
+use Rattle.ila_base.specs.declared.fault.NetFault.{NetFault}
 use Rattle.ila_base.specs.declared.refusal.NetRefusal.TheVariants.{Construct, Syntax, Limit}
 use Rattle.vlog_parse.specs.declared.limits.Excess.{Excess}
 use Rattle.vlog_parse.specs.declared.tree.Tree.{Tree}
 use Rattle.vlog_parse.specs.Lexemes.{Lexeme, lexemes, bytes_of}
+use Rattle.vlog_parse.specs.Items.{place_of}
 use Rattle.vlog_parse.specs.Design.{design, IsDesign}
 use Rattle.vlog_parse.specs.Limits.{open_braces, open_behind, index_next, opens_index, excess, IsWithinLimits, or_later, first_excess}
-use Rattle.vlog_parse.specs.Parsing.{is_outside, HasNoOutside, construct_name, place_of_rest, IsConstructFault, IsSyntaxFault, IsLimitFault, IsRefusal, construct, syntax_of, limit, IsReadAs}
+use Rattle.vlog_parse.specs.Parsing.{is_outside, HasNoOutside, construct_name, IsConstructFault, IsSyntaxFault, IsLimitFault, IsRefusal, construct, syntax_of, limit, IsReadAs}
 use Rattle.vlog_parse.proofs.LimitLaws.{scan_behind}
 
 none_at : (before after : List Token) (token : Token) → HasNoOutside (before ++ token ∷ after) → is_outside token.kind ≡ false
@@ -28,34 +30,6 @@ one_outside [] a1 [] a2 t1 t2 e p1 p2 o1 o2 = cc
 one_outside [] a1 (u ∷ b2) a2 t1 t2 e p1 p2 o1 o2 = let same : t1 ≡ u = cc in absurd (no_end (sym p2.0 ∙ ap (λ t. is_outside t.kind) (sym same) ∙ o1))
 one_outside (u ∷ b1) a1 [] a2 t1 t2 e p1 p2 o1 o2 = let same : u ≡ t2 = cc in absurd (no_end (sym p1.0 ∙ ap (λ t. is_outside t.kind) same ∙ o2))
 one_outside (u ∷ b1) a1 (v ∷ b2) a2 t1 t2 e p1 p2 o1 o2 = let tail : b1 ++ t1 ∷ a1 ≡ b2 ++ t2 ∷ a2 = cc in one_outside b1 a1 b2 a2 t1 t2 tail p1.1 p2.1 o1 o2
-
--- of two cuts of a list one is before the other
-abbrev Before : List Lexeme → List Lexeme → List Lexeme → List Lexeme → Type 0
-Before f1 r1 f2 r2 = (m : List Lexeme) × (f2 ≡ f1 ++ m) × (r1 ≡ m ++ r2)
-
-cuts : (f1 r1 f2 r2 : List Lexeme) → f1 ++ r1 ≡ f2 ++ r2 → Before f1 r1 f2 r2 ⊎ Before f2 r2 f1 r1
-cuts [] r1 f2 r2 e = inl (f2, refl, e)
-cuts (t ∷ f1) r1 [] r2 e = inr (t ∷ f1, refl, sym e)
-cuts (t ∷ f1) r1 (u ∷ f2) r2 e =
-    let head : t ≡ u = cc in
-    let tail : f1 ++ r1 ≡ f2 ++ r2 = cc in
-    grow (cuts f1 r1 f2 r2 tail) head where
-      grow : Before f1 r1 f2 r2 ⊎ Before f2 r2 f1 r1 → t ≡ u → Before (t ∷ f1) r1 (u ∷ f2) r2 ⊎ Before (u ∷ f2) r2 (t ∷ f1) r1
-      grow (inl (m, a, b)) same = inl (m, ap (λ us. u ∷ us) a ∙ ap (λ v. v ∷ f1 ++ m) (sym same), b)
-      grow (inr (m, a, b)) same = inr (m, ap (λ us. t ∷ us) a ∙ ap (λ v. v ∷ f2 ++ m) same, b)
-
--- the later of two refused places is the first
-later : (f1 r1 f2 r2 : List Lexeme) → Before f1 r1 f2 r2 → IsRefusedAt Lexeme Tree design.words f1 r1 → IsRefusedAt Lexeme Tree design.words f2 r2 → r1 ≡ r2
-later f1 r1 f2 r2 ([], a, b) one two = b
-later f1 r1 f2 r2 (t ∷ m, a, b) one two =
-    let P : List Lexeme → Type 0 = λ us. design.words us two.value in
-    absurd (one.refused t (m ++ r2) (m ++ two.more) two.value b (subst P (ap (λ us. us ++ two.more) a ∙ append_assoc f1 (t ∷ m) two.more) two.begins))
-
-one_rest : (f1 r1 f2 r2 : List Lexeme) → f1 ++ r1 ≡ f2 ++ r2 → IsRefusedAt Lexeme Tree design.words f1 r1 → IsRefusedAt Lexeme Tree design.words f2 r2 → r1 ≡ r2
-one_rest f1 r1 f2 r2 e one two = by_order (cuts f1 r1 f2 r2 e) where
-  by_order : Before f1 r1 f2 r2 ⊎ Before f2 r2 f1 r1 → r1 ≡ r2
-  by_order (inl b) = later f1 r1 f2 r2 b one two
-  by_order (inr b) = sym (later f2 r2 f1 r1 b two one)
 
 -- the first limit that is passed is what a scan finds
 scanned : (before front rest : List Lexeme) (token : Lexeme) (found : Excess) → IsWithinLimits before front → excess (before ++ front) token ≡ Some found
@@ -77,7 +51,10 @@ found_by : (text : List ℕ) (tokens : List Token) (fault : NetFault) (f : IsLim
 found_by text tokens fault f = ap (first_excess 0 false) f.whole ∙ scanned [] f.before f.after f.token f.found f.first f.passes
 
 not_design : (text : List ℕ) (tokens : List Token) (fault : NetFault) (tree : Tree) → IsSyntaxFault text tokens fault → IsDesign text tokens tree → ⊥
-not_design text tokens fault tree f w = let P : List Lexeme → Type 0 = λ us. design.words us tree in f.refused.no_word tree (subst P f.whole w)
+not_design text tokens fault tree f w = no_syntax_fault design.words place_of (place_behind text) (lexemes text tokens) fault.place tree f.refused w
+
+same_fault : (fault other : NetFault) → fault.refusal ≡ Syntax → other.refusal ≡ Syntax → fault.place ≡ other.place → fault ≡ other
+same_fault fault other one two there = λ i. record { refusal = (one ∙ sym two) i; place = there i }
 
 pub one_fault : (text : List ℕ) (tokens : List Token) (fault other : NetFault) → IsRefusal text tokens fault → IsRefusal text tokens other → fault ≡ other
 one_fault text tokens fault other (construct f) (construct g) =
@@ -87,8 +64,7 @@ one_fault text tokens fault other (construct f) (syntax_of g) = absurd (apart te
 one_fault text tokens fault other (construct f) (limit g) = absurd (apart text tokens fault g.profile f)
 one_fault text tokens fault other (syntax_of f) (construct g) = absurd (apart text tokens other f.profile g)
 one_fault text tokens fault other (syntax_of f) (syntax_of g) =
-    let same : f.after ≡ g.after = one_rest f.before f.after g.before g.after (sym f.whole ∙ g.whole) f.refused g.refused in
-    f.told ∙ ap (λ rest. record { refusal = Syntax; place = place_of_rest text rest }) same ∙ sym g.told
+    same_fault fault other f.refusal g.refusal (one_syntax_fault design.words place_of (place_behind text) (lexemes text tokens) fault.place other.place f.refused g.refused)
 one_fault text tokens fault other (syntax_of f) (limit g) = absurd (not_design text tokens fault g.tree f g.design)
 one_fault text tokens fault other (limit f) (construct g) = absurd (apart text tokens other f.profile g)
 one_fault text tokens fault other (limit f) (syntax_of g) = absurd (not_design text tokens other f.tree g f.design)

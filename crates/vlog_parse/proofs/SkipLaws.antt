@@ -1,11 +1,10 @@
 -- An expression of any depth is read token by token, with a count of its open braces.
 use Rattle.std.proofs.Common.{◌≡◌, refl, sym, ◌∙◌, ap, ℕ, zero, suc, ◌+◌, ◌-◌, ◌<◌, ◌≤◌, Bool, true, false, cond, List, [], ◌∷◌, length, arith}
-use Rattle.grammar.specs.Rule.{Outcome, looks, continue, repeat}
+use Rattle.grammar.specs.Rule.{Outcome, looks, continue, repeat, Shrinks, separated, Keeps}
 use Rattle.grammar.specs.Rule.Outcome.{Took, Stuck}
-use Rattle.grammar.specs.Outcomes.{cond_yes, cond_not, took_rest, not_both_ways, no_end}
-use Rattle.grammar.specs.RepeatLaws.{Shrinks, shrinks_by, with_first, repeat_unrolls, repeat_ends}
-use Rattle.grammar.specs.ListLaws.{separated}
-use Rattle.grammar.specs.NestLaws.{Keeps, good_keeps}
+use Rattle.grammar.proofs.Outcomes.{cond_yes, cond_not, took_rest, not_both_ways, no_end}
+use Rattle.grammar.proofs.RepeatLaws.{shrinks_by, with_first, repeat_unrolls, repeat_ends}
+use Rattle.grammar.proofs.NestLaws.{good_keeps}
 use Rattle.vlog_parse.specs.declared.tree.Expr.{Expr}
 use Rattle.vlog_parse.specs.declared.tree.Expr.TheVariants.{Concat}
 use Rattle.vlog_parse.specs.declared.sort.Sort.TheVariants.{LeftBrace, RightBrace, Comma}
@@ -15,9 +14,9 @@ use Rattle.vlog_parse.specs.Skipping.{skipped, closing, wanting, left}
 use Rattle.vlog_parse.proofs.ExpressionLaws.{operand_good, within_good, expr_good, over_same, args_keep, same_reading}
 use Rattle.grammar.specs.Good.{Excludes, sees}
 use Rattle.vlog_parse.specs.declared.sort.Sort.{Sort}
-use Rattle.grammar.specs.SortLaws.{excludes}
+use Rattle.grammar.proofs.SortLaws.{excludes}
 use Rattle.vlog_parse.proofs.SortLaws.{sorts}
-use Rattle.grammar.specs.LoopLaws.{separated_shrinks}
+use Rattle.grammar.proofs.LoopLaws.{separated_shrinks}
 
 -- an expression of any depth is one whose parts are of any depth
 pub expr_unrolls : (ts : List Lexeme) → expr.read ts ≡ (expr_over expr).read ts

@@ -1,6 +1,6 @@
 -- The sorts of the grammar's tokens, all told, and a token of each.
 use Rattle.std.specs.Prelude.{◌≡◌, Bool, true, List, [], ◌∷◌}
-use Rattle.grammar.specs.SortLaws.{Sorts, every, later, and_first}
+use Rattle.grammar.proofs.SortLaws.{Sorts, every, later, and_first}
 use Rattle.vlog_parse.specs.declared.sort.Sort.{Sort}
 use Rattle.vlog_parse.specs.declared.sort.Sort.TheVariants.{Name, Module, EndModule, Input, Output, Wire, Assign, And, Nand, Or, Nor, Xor, Xnor, Buf, Not, Number, Sized, Text, LeftParenthesis, RightParenthesis, LeftBracket, RightBracket, LeftBrace, RightBrace, Comma, Semicolon, Colon, Dot, Equals, Hash, Outside}
 use Rattle.vlog_parse.specs.Lexemes.{Lexeme}

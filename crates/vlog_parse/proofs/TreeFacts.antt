@@ -1,7 +1,7 @@
 -- What is told of headers, modules and trees that are read.
 use Rattle.std.proofs.Common.{◌≡◌, subst, ℕ, zero, suc, ◌+◌, ◌<◌, ◌≤◌, List, [], ◌∷◌, ◌++◌, map, arith, None}
 use Rattle.grammar.specs.Rule.{pure, end, repeat, list}
-use Rattle.grammar.specs.YieldLaws.{Fact, Yields, AreAll, any_yields, pure_yields, then_yields, either_yields, repeat_yields, list_yields, all_map, all_append, all_within}
+use Rattle.grammar.proofs.YieldLaws.{Fact, Yields, AreAll, any_yields, pure_yields, then_yields, either_yields, repeat_yields, list_yields, all_map, all_append, all_within}
 use Rattle.vlog_lex.specs.declared.token.Token.{Token}
 use Rattle.vlog_lex.specs.Cutting.{IsReading}
 use Rattle.vlog_parse.specs.declared.parts.Header.{Header}

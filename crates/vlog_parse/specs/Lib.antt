@@ -3,11 +3,9 @@ pub mod Lexemes
 pub mod Expressions
 pub mod Items
 pub mod Design
-pub mod Giving
 pub mod Readers
 pub mod Skipping
 pub mod Limits
 pub mod Parsing
 pub mod Leaves
-pub mod LeafLaws
 pub mod ReadTree

@@ -1,5 +1,6 @@
 -- The limits that a design's tokens keep: how many braces are open, and how large an index is.
 use Rattle.std.specs.Prelude.{◌≡◌, ℕ, ◌+◌, ◌-◌, Bool, false, ◌&&◌, ◌||◌, ◌==◌, nat_lt, if◌then◌else◌, List, [], ◌∷◌, ◌++◌, Option, Some, None}
+use Rattle.ila_base.specs.declared.limits.TheConstants.{NESTING, GREATEST_INDEX}
 use Rattle.ila_base.specs.declared.refusal.LimitKind.TheVariants.{Nesting, Index}
 use Rattle.vlog_parse.specs.declared.limits.Excess.{Excess}
 use Rattle.vlog_parse.specs.declared.limits.Seen.{Seen}
@@ -23,12 +24,11 @@ abbrev pub index_next : Bool → List Lexeme → Bool
 index_next index [] = index
 index_next index (t ∷ ts) = index_next (opens_index t) ts
 
--- the limit that a token passes, in so many open braces and with or without an index next: at most 32 braces may be open, and
--- an index is at most 1,048,575
+-- the limit that a token passes, in so many open braces and with or without an index next
 abbrev pub excess_of : ℕ → Bool → Lexeme → Option Excess
 excess_of braces index t =
-    if is LeftBrace t && (braces == 32) then Some (record { kind = Nesting; count = 33; place = t.place })
-    else (if index && is Number t && nat_lt 1048575 t.number then Some (record { kind = Index; count = t.number; place = t.place })
+    if is LeftBrace t && (braces == NESTING) then Some (record { kind = Nesting; count = NESTING + 1; place = t.place })
+    else (if index && is Number t && nat_lt GREATEST_INDEX t.number then Some (record { kind = Index; count = t.number; place = t.place })
     else None)
 
 -- the limit that a token passes behind those before it
@@ -46,7 +46,7 @@ seen_of t = record {
   opens = is LeftBrace t;
   closes = is RightBrace t;
   before_index = opens_index t;
-  large = is Number t && nat_lt 1048575 t.number;
+  large = is Number t && nat_lt GREATEST_INDEX t.number;
   outside = is Outside t;
   number = t.number;
   place = t.place;

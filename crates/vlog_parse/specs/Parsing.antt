@@ -1,16 +1,16 @@
 -- What the tokens of a text are read as: the tree of their design, or the first refusal.
 use Rattle.std.specs.Prelude.{◌≡◌, ℕ, Bool, true, false, ◌==◌, if◌then◌else◌, List, [], ◌∷◌, ◌++◌, Some}
-use Rattle.grammar.specs.Good.{IsRefusedAt}
-use Rattle.ila_base.specs.declared.place.Place.{Place}
+use Rattle.grammar.specs.Faults as grammar
 use Rattle.ila_base.specs.declared.refusal.NetRefusal.TheVariants.{Construct, Syntax, Limit}
-use Rattle.vlog_lex.specs.declared.token.NetFault.{NetFault}
+use Rattle.ila_base.specs.declared.fault.NetFault.{NetFault}
 use Rattle.vlog_lex.specs.declared.token.Token.{Token}
 use Rattle.vlog_lex.specs.declared.token.TokenKind.{TokenKind}
 use Rattle.vlog_lex.specs.declared.token.TokenKind.TheVariants.{Outside}
-use Rattle.vlog_lex.specs.Cutting.{place_behind}
+use Rattle.ila_base.specs.Places.{place_behind}
 use Rattle.vlog_parse.specs.declared.limits.Excess.{Excess}
 use Rattle.vlog_parse.specs.declared.tree.Tree.{Tree}
 use Rattle.vlog_parse.specs.Lexemes.{Lexeme, bytes_of, lexemes}
+use Rattle.vlog_parse.specs.Items.{place_of}
 use Rattle.vlog_parse.specs.Design.{design, IsDesign}
 use Rattle.vlog_parse.specs.Limits.{excess, IsWithinLimits}
 
@@ -38,20 +38,11 @@ pub record IsConstructFault (text : List ℕ) (tokens : List Token) (fault : Net
   pub outside : is_outside token.kind ≡ true
   pub told : fault ≡ record { refusal = Construct (construct_name (bytes_of text token)); place = token.place }
 
--- the place of the first token of a rest, or behind the text's last byte
-abbrev pub place_of_rest : List ℕ → List Lexeme → Place
-place_of_rest text [] = place_behind text
-place_of_rest text (t ∷ rest) = t.place
-
--- the tokens are those of no design: the ones before the fault begin one, and with the next they begin none, or they are
--- none and there is no next
+-- the tokens are those of no design from a place on: the first that no design goes on with, or behind the text's last byte
 pub record IsSyntaxFault (text : List ℕ) (tokens : List Token) (fault : NetFault) : Type 0 where
   pub profile : HasNoOutside tokens
-  pub before : List Lexeme
-  pub after : List Lexeme
-  pub whole : lexemes text tokens ≡ before ++ after
-  pub refused : IsRefusedAt Lexeme Tree design.words before after
-  pub told : fault ≡ record { refusal = Syntax; place = place_of_rest text after }
+  pub refusal : fault.refusal ≡ Syntax
+  pub refused : grammar.IsSyntaxFault Lexeme Tree place_of (place_behind text) design.words (lexemes text tokens) fault.place
 
 -- the first token of a design that passes a limit
 pub record IsLimitFault (text : List ℕ) (tokens : List Token) (fault : NetFault) : Type 0 where

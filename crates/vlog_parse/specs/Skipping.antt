@@ -1,17 +1,17 @@
 -- Expressions of any depth, read to trees of a depth that is bounded: where too many braces are open, an expression is read
 -- and its parts are left out.
 use Rattle.std.specs.Prelude.{◌≡◌, ℕ, zero, suc, ◌+◌, ◌<◌, ◌≤◌, Bool, true, false, List, [], length, Result, Ok, Err}
-use Rattle.grammar.specs.Rule.{Rule, pure, ◌>>=◌, either, repeat}
+use Rattle.grammar.specs.Rule.{Rule, pure, ◌>>=◌, either, repeat, separated}
 use Rattle.grammar.specs.Rule.Outcome.{Stuck}
-use Rattle.grammar.specs.ListLaws.{separated}
 use Rattle.vlog_parse.specs.declared.tree.Expr.{Expr}
 use Rattle.vlog_parse.specs.declared.tree.Expr.TheVariants.{Concat}
 use Rattle.vlog_parse.specs.declared.sort.Sort.TheVariants.{LeftBrace, RightBrace, Comma}
 use Rattle.vlog_parse.specs.declared.skip.Skip.{Skip}
-use Rattle.vlog_parse.specs.declared.stop.Stop.{Stop}
-use Rattle.vlog_parse.specs.declared.stop.Stop.TheVariants.{Syntax, NoMemory}
+use Rattle.grammar.specs.declared.stop.Stop.{Stop}
+use Rattle.grammar.specs.declared.stop.Stop.TheVariants.{Syntax, NoMemory}
 use Rattle.vlog_parse.specs.Lexemes.{Lexeme}
 use Rattle.vlog_parse.specs.Expressions.{is, mark, operand, concatenation, expr_over, expr}
+use Rattle.ila_base.specs.declared.limits.TheConstants.{NESTING}
 
 -- a concatenation, without its parts
 abbrev pub skipped : Rule Lexeme Expr
@@ -49,6 +49,6 @@ Turns skip before (Ok next) after = ((left skip.wants skip.depth).read before �
 Turns skip before (Err Syntax) after = (left skip.wants skip.depth).read before ≡ Stuck after
 Turns skip before (Err NoMemory) after = Unit {0}
 
--- an expression, with the parts of concatenations that stand in fewer than 32 others
+-- an expression, with the parts of concatenations that stand in fewer others than may be open
 unfoldable pub cut : Rule Lexeme Expr
-cut = cut_within 32
+cut = cut_within NESTING

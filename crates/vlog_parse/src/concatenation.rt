@@ -1,17 +1,18 @@
 ghost use Rattle.std.specs.Prelude.{◌≡◌};
 ghost use Rattle.vlog_parse.specs.Expressions.{args, concatenation};
-ghost use Rattle.vlog_parse.specs.Giving.{Gives};
+ghost use Rattle.grammar.specs.Giving.{Gives};
 ghost use Rattle.vlog_parse.specs.Skipping.{cut_within, cut};
 
 use crate::parser::Parser;
 use crate::sort::Sort;
-use crate::stop::Stop;
 use crate::tree::Expr;
+use grammar::Stop;
 use ila_base::Items;
+use ila_base::limits::NESTING;
 use std::alloc::Global;
 
 /// How many concatenations stand in one another at most with their parts kept.
-const DEEPEST: u8 = 32;
+const DEEPEST: u8 = NESTING as u8;
 
 impl<'a> Parser<'a> {
     /// An expression, with its concatenations kept as deep as they may be.

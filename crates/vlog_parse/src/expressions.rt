@@ -1,13 +1,13 @@
 ghost use Rattle.std.specs.Prelude.{◌≡◌};
 ghost use Rattle.vlog_parse.specs.Expressions.{range, part_behind, bit_behind, select_behind, reference, operand, concatenation, args};
-ghost use Rattle.vlog_parse.specs.Giving.{Gives};
+ghost use Rattle.grammar.specs.Giving.{Gives};
 ghost use Rattle.vlog_parse.specs.Skipping.{cut_within};
 
 use crate::parser::Parser;
 use crate::parts::Named;
 use crate::sort::Sort;
-use crate::stop::Stop;
 use crate::tree::{Expr, Range};
+use grammar::Stop;
 use ila_base::Items;
 use std::alloc::Global;
 

@@ -3,15 +3,15 @@ ghost use Rattle.grammar.specs.Rule.{list};
 ghost use Rattle.vlog_parse.specs.declared.sort.Sort.TheVariants.{Comma};
 ghost use Rattle.vlog_parse.specs.Expressions.{is};
 ghost use Rattle.vlog_parse.specs.Items.{some_name, terminals_of, terminals, gate_item, gate_items};
-ghost use Rattle.vlog_parse.specs.Giving.{Gives};
+ghost use Rattle.grammar.specs.Giving.{Gives};
 ghost use Rattle.vlog_parse.specs.Skipping.{cut};
 
 use crate::list::Part;
 use crate::parser::Parser;
 use crate::parts::{Named, Terminals};
 use crate::sort::Sort;
-use crate::stop::Stop;
 use crate::tree::{Expr, Gate, GateKind, Item};
+use grammar::Stop;
 use ila_base::{Items, NoMemory, Place};
 use std::alloc::Global;
 

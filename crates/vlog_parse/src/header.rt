@@ -4,14 +4,14 @@ ghost use Rattle.vlog_parse.specs.declared.sort.Sort.TheVariants.{Comma};
 ghost use Rattle.vlog_parse.specs.declared.tree.Decl.{Decl as DeclOf};
 ghost use Rattle.vlog_parse.specs.Expressions.{is};
 ghost use Rattle.vlog_parse.specs.Design.{ansi, ansi_part, bare_part, next_part, declared_behind, carried, ansi_header, ansi_ports, named_name, plain_ports, some_ports, ports_list, header};
-ghost use Rattle.vlog_parse.specs.Giving.{Gives};
+ghost use Rattle.grammar.specs.Giving.{Gives};
 
 use crate::list::{Part, Repeated};
 use crate::parser::Parser;
 use crate::parts::{Header, Named, PortPart};
 use crate::sort::Sort;
-use crate::stop::Stop;
 use crate::tree::{Decl, Dir, Item, Range};
+use grammar::Stop;
 use ila_base::{Items, Name, NoMemory};
 use std::alloc::Global;
 

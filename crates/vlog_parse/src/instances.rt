@@ -3,7 +3,7 @@ ghost use Rattle.grammar.specs.Rule.{list};
 ghost use Rattle.vlog_parse.specs.declared.sort.Sort.TheVariants.{Comma};
 ghost use Rattle.vlog_parse.specs.Expressions.{is};
 ghost use Rattle.vlog_parse.specs.Items.{some_expr, conn, conns_by_name, conns_by_place, conns, linked, inst_item, inst_items};
-ghost use Rattle.vlog_parse.specs.Giving.{Gives};
+ghost use Rattle.grammar.specs.Giving.{Gives};
 ghost use Rattle.vlog_parse.specs.Skipping.{cut};
 
 use crate::list::Part;
@@ -11,8 +11,8 @@ use crate::params::copied;
 use crate::parser::Parser;
 use crate::parts::{Linked, Named};
 use crate::sort::Sort;
-use crate::stop::Stop;
 use crate::tree::{Conns, Expr, Inst, Item, Value};
+use grammar::Stop;
 use ila_base::{Items, Name, NoMemory};
 use std::alloc::Global;
 

@@ -3,15 +3,15 @@ ghost use Rattle.grammar.specs.Rule.{list};
 ghost use Rattle.vlog_parse.specs.declared.sort.Sort.TheVariants.{Comma};
 ghost use Rattle.vlog_parse.specs.Expressions.{is, name};
 ghost use Rattle.vlog_parse.specs.Items.{some_wire, some_range, net_of, port_items, net_items, pair, assign_items, item};
-ghost use Rattle.vlog_parse.specs.Giving.{Gives};
+ghost use Rattle.grammar.specs.Giving.{Gives};
 ghost use Rattle.vlog_parse.specs.Skipping.{cut};
 
 use crate::list::Part;
 use crate::parser::Parser;
 use crate::parts::Named;
 use crate::sort::Sort;
-use crate::stop::Stop;
 use crate::tree::{Decl, Dir, Item, Range};
+use grammar::Stop;
 use ila_base::{Items, NoMemory};
 use std::alloc::Global;
 

@@ -1,5 +1,5 @@
 ghost use Rattle.std.specs.Prelude.{◌≡◌, ℕ, List, None};
-ghost use Rattle.vlog_lex.specs.declared.token.NetFault.{NetFault as FaultOf};
+ghost use Rattle.ila_base.specs.declared.fault.NetFault.{NetFault as FaultOf};
 ghost use Rattle.vlog_lex.specs.declared.token.Token.{Token as TokenOf};
 ghost use Rattle.vlog_lex.specs.Cutting.{IsReading};
 ghost use Rattle.vlog_parse.specs.declared.tree.Tree.{Tree as TreeOf};

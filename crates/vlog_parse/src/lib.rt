@@ -20,7 +20,6 @@ mod parts;
 mod skip;
 mod sort;
 mod source;
-mod stop;
 #[cfg(test)]
 mod tests;
 mod tree;

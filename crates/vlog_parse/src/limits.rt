@@ -1,18 +1,14 @@
 ghost use Rattle.std.specs.Prelude.{◌≡◌, ◌≤◌, ℕ, List, [], true, false, Some, None, MatchResult};
+ghost use Rattle.ila_base.specs.declared.limits.TheConstants.{NESTING};
 ghost use Rattle.vlog_parse.specs.Lexemes.{Lexeme, lexeme, sort_of};
 ghost use Rattle.vlog_parse.specs.Limits.{open_behind, opens_index, excess_of, seen_of, first_excess, AreClean};
 
 use crate::lexeme::{mark_sort, number_of};
 use crate::parser::Parser;
 use crate::sort::Sort;
+use ila_base::limits::{GREATEST_INDEX, NESTING};
 use ila_base::{LimitKind, Place};
 use vlog_lex::{Token, TokenKind};
-
-/// How many braces may be open at once.
-const MOST_BRACES: u32 = 32;
-
-/// The greatest index.
-const GREATEST_INDEX: u32 = 1_048_575;
 
 /// A count that is above its limit, and the place of the token with which it is.
 #[derive(Clone, Copy, Debug)]
@@ -83,15 +79,15 @@ pub struct Counts {
 impl Counts {
     /// The counts behind one more token, or the limit that it passes.
     fn behind(self, seen: Seen) -> Result<Counts, Excess>
-        requires { self.braces ≤ 32 }
+        requires { self.braces ≤ NESTING }
         ensures { (t : Lexeme) → seen ≡ seen_of t → MatchResult result
-            (λ counts. (excess_of self.braces self.index t ≡ None) × (counts.braces ≡ open_behind self.braces t) × (counts.index ≡ opens_index t) × (counts.braces ≤ 32))
+            (λ counts. (excess_of self.braces self.index t ≡ None) × (counts.braces ≡ open_behind self.braces t) × (counts.index ≡ opens_index t) × (counts.braces ≤ NESTING))
             (λ excess. excess_of self.braces self.index t ≡ Some excess) }
     {
-        if seen.opens && self.braces == MOST_BRACES {
+        if seen.opens && self.braces == NESTING {
             return Err(Excess {
                 kind: LimitKind::Nesting,
-                count: 33,
+                count: u64::from(NESTING) + 1,
                 place: seen.place,
             });
         }

@@ -1,15 +1,12 @@
 ghost use Rattle.std.specs.Prelude.{◌≡◌};
-ghost use Rattle.grammar.specs.Rule.{looks};
-ghost use Rattle.grammar.specs.RepeatLaws.{Shrinks};
-ghost use Rattle.grammar.specs.ListLaws.{separated};
-ghost use Rattle.grammar.specs.NestLaws.{Keeps};
+ghost use Rattle.grammar.specs.Rule.{looks, Shrinks, separated, Keeps};
 ghost use Rattle.vlog_parse.specs.Expressions.{is};
-ghost use Rattle.vlog_parse.specs.Giving.{Gives};
+ghost use Rattle.grammar.specs.Giving.{Gives};
 ghost use Rattle.vlog_parse.specs.Readers.{rule_of, list_reader, repeat_reader};
 
 use crate::parser::Parser;
 use crate::sort::Sort;
-use crate::stop::Stop;
+use grammar::Stop;
 use ila_base::Items;
 use std::alloc::Global;
 

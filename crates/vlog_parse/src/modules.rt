@@ -3,14 +3,14 @@ ghost use Rattle.grammar.specs.Rule.{repeat};
 ghost use Rattle.vlog_parse.specs.declared.sort.Sort.TheVariants.{Module as ModuleWord};
 ghost use Rattle.vlog_parse.specs.Expressions.{is};
 ghost use Rattle.vlog_parse.specs.Design.{body, module_over, design_over};
-ghost use Rattle.vlog_parse.specs.Giving.{Gives};
+ghost use Rattle.grammar.specs.Giving.{Gives};
 ghost use Rattle.vlog_parse.specs.Skipping.{cut};
 
 use crate::list::{Part, Repeated};
 use crate::parser::Parser;
 use crate::sort::Sort;
-use crate::stop::Stop;
 use crate::tree::{Item, Module, Tree};
+use grammar::Stop;
 use ila_base::{Items, NoMemory};
 use std::alloc::Global;
 

@@ -3,13 +3,13 @@ ghost use Rattle.grammar.specs.Rule.{list};
 ghost use Rattle.vlog_parse.specs.declared.sort.Sort.TheVariants.{Comma};
 ghost use Rattle.vlog_parse.specs.Expressions.{is};
 ghost use Rattle.vlog_parse.specs.Items.{param, some_params, params_list, params};
-ghost use Rattle.vlog_parse.specs.Giving.{Gives};
+ghost use Rattle.grammar.specs.Giving.{Gives};
 
 use crate::list::Part;
 use crate::parser::Parser;
 use crate::sort::Sort;
-use crate::stop::Stop;
 use crate::tree::Value;
+use grammar::Stop;
 use ila_base::{Items, Name, NoMemory};
 use std::alloc::Global;
 

@@ -6,14 +6,14 @@ ghost use Rattle.vlog_parse.specs.Expressions.{is, mark, name, number, constant}
 ghost use Rattle.vlog_parse.specs.Items.{of_sort, direction, gate, value, opened, place_of};
 ghost use Rattle.std.specs.Option.{option_map};
 ghost use Rattle.vlog_parse.specs.Limits.{seen_of};
-ghost use Rattle.vlog_parse.specs.Giving.{Gives};
+ghost use Rattle.grammar.specs.Giving.{Gives};
 
 use crate::lexeme::{bytes_of, name_of, number_of, sort_of, word_of};
 use crate::limits::{Seen, seen_in};
 use crate::parts::Named;
 use crate::sort::Sort;
-use crate::stop::Stop;
 use crate::tree::{Dir, Expr, GateKind, Value};
+use grammar::Stop;
 use ila_base::{Name, Place};
 use std::alloc::Global;
 use std::marker::Model;

@@ -2,13 +2,13 @@ ghost use Rattle.std.specs.Prelude.{◌≡◌, ◌+◌, ◌^◌, ◌<◌, true, 
 ghost use Rattle.grammar.specs.Rule.{looks};
 ghost use Rattle.vlog_parse.specs.declared.sort.Sort.TheVariants.{LeftBrace as OpenMark};
 ghost use Rattle.vlog_parse.specs.Expressions.{is};
-ghost use Rattle.vlog_parse.specs.Giving.{Gives};
+ghost use Rattle.grammar.specs.Giving.{Gives};
 ghost use Rattle.vlog_parse.specs.Skipping.{skipped, wanting, Turns};
 
 use crate::parser::Parser;
 use crate::sort::Sort;
-use crate::stop::Stop;
 use crate::tree::Expr;
+use grammar::Stop;
 use ila_base::Items;
 use std::alloc::Global;
 

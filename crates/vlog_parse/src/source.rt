@@ -3,23 +3,27 @@ ghost use Rattle.std.specs.Option.{option_map};
 ghost use Rattle.std.specs.List.{find};
 ghost use Rattle.grammar.specs.Rule.{first};
 ghost use Rattle.grammar.specs.Rule.Outcome.{Stuck};
-ghost use Rattle.vlog_lex.specs.Cutting.{IsReading, StopsFor, IsWithin, place_behind};
+ghost use Rattle.vlog_lex.specs.Cutting.{IsReading, IsWithin};
+ghost use Rattle.ila_base.specs.Stops.{StopsFor};
+ghost use Rattle.ila_base.specs.Places.{place_behind};
+ghost use Rattle.grammar.specs.Faults.{place_of_rest};
+ghost use Rattle.ila_base.specs.declared.limits.TheConstants.{FILE_BYTES};
 ghost use Rattle.vlog_parse.specs.Lexemes.{Lexeme, lexemes, AreWithin, bytes_of};
 ghost use Rattle.vlog_parse.specs.Items.{place_of};
 ghost use Rattle.vlog_parse.specs.Design.{design_over};
 ghost use Rattle.vlog_parse.specs.Skipping.{cut};
 ghost use Rattle.vlog_parse.specs.Limits.{first_excess};
-ghost use Rattle.vlog_parse.specs.Parsing.{is_outside, construct_name, place_of_rest, HasNoOutside, IsConstructFault, IsRefusal, IsReadAs};
+ghost use Rattle.vlog_parse.specs.Parsing.{is_outside, construct_name, HasNoOutside, IsConstructFault, IsRefusal, IsReadAs};
 ghost use Rattle.vlog_parse.specs.ReadTree.{IsReadTree};
 
 use crate::lexeme::bytes_of;
 use crate::limits::Excess;
 use crate::parser::Parser;
-use crate::stop::Stop;
 use crate::tree::Tree;
-use ila_base::{Name, NetRefusal, Place};
+use grammar::Stop;
+use ila_base::{Name, NetFault, NetRefusal, NetStop, Place};
 use std::alloc::Global;
-use vlog_lex::{NetFault, NetStop, Token, TokenKind, place_behind};
+use vlog_lex::{Token, TokenKind};
 
 fn is_outside(kind: TokenKind) -> bool
     ensures { result ≡ is_outside kind }
@@ -70,12 +74,13 @@ fn check_profile(alloc: Global, text: &[u8], tokens: &[Token]) -> Result<(), Net
 
 /// The place of the next token, or that behind the text's last byte.
 fn place_or_end(text: &[u8], next: Option<Place>) -> Place
-    requires { length text.now ≤ 67108864 }
-    ensures { (rest : _) → next ≡ option_map place_of (first rest) → result ≡ place_of_rest text.now rest }
+    requires { length text.now ≤ FILE_BYTES }
+    ensures { (rest : _) → next ≡ option_map place_of (first rest)
+        → result ≡ place_of_rest place_of (place_behind text.now) rest }
 {
     match next {
         Some(place) => place,
-        None => place_behind(Place { line: 1, col: 1 }, text),
+        None => Place::behind(text),
     }
 }
 
@@ -100,7 +105,8 @@ fn check_unless_clean(
 /// Why the tokens are refused, which are those of no design from a place on.
 fn refused_at(alloc: Global, text: &[u8], tokens: &[Token], place: Place) -> NetStop
     requires { AreWithin (length text.now) tokens.now }
-    ensures { (rest : List Lexeme) → (design_over cut).read (lexemes text.now tokens.now) ≡ Stuck rest → place ≡ place_of_rest text.now rest → StopsFor (IsRefusal text.now tokens.now) result }
+    ensures { (rest : List Lexeme) → (design_over cut).read (lexemes text.now tokens.now) ≡ Stuck rest
+        → place ≡ place_of_rest place_of (place_behind text.now) rest → StopsFor (IsRefusal text.now tokens.now) result }
 {
     match check_profile(alloc, text, tokens) {
         Err(stop) => stop,
@@ -115,7 +121,7 @@ fn refused_at(alloc: Global, text: &[u8], tokens: &[Token], place: Place) -> Net
 /// or why they are refused that are those of none.
 fn read_design(alloc: Global, text: &[u8], tokens: &[Token]) -> Result<Tree, NetStop>
     requires within { AreWithin (length text.now) tokens.now }
-    requires short { length text.now ≤ 67108864 }
+    requires short { length text.now ≤ FILE_BYTES }
     ensures ok { IfOk result (λ tree. (design_over cut).words (lexemes text.now tokens.now) tree) }
     ensures err { IfErr result (StopsFor (IsRefusal text.now tokens.now)) }
 {

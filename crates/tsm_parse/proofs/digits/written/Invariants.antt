@@ -1,6 +1,7 @@
 use Rattle.std.proofs.Common.{◌≡◌, take}
 use Rattle.std.specs.Prelude.{map}
-use Rattle.tsm_parse.specs.Constants.{digits_in, written_digit}
+use Rattle.ila_base.specs.Bytes.{digits_in}
+use Rattle.tsm_parse.specs.Constants.{written_digit}
 use Rattle.tsm_parse.proofs.digits.written.Given as goal
 
 abbrev pub invariant-loop-byte : goal.invariant-loop-byte

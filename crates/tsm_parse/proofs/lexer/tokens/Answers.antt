@@ -1,10 +1,9 @@
-use Rattle.std.proofs.Common.{take, sym, ◌∙◌, ap, arith}
+use Rattle.std.proofs.Common.{◌∙◌, ap, arith}
 use Rattle.std.specs.Prelude.{None}
 use Rattle.std.proofs.lemmas.List.{take_rest}
 use Rattle.std.proofs.lemmas.Result.{err_from_is_err_and}
-use Rattle.tsm_parse.specs.Tokens.{place_behind}
 use Rattle.tsm_parse.specs.Reading.{piece_at}
-use Rattle.tsm_parse.proofs.StepLaws.{col_at, piece_within, taken_within, piece_rests, rests_end, take_on, count_on, piece_stops}
+use Rattle.tsm_parse.proofs.StepLaws.{piece_within, taken_within, piece_rests, rests_end, piece_stops}
 use Rattle.tsm_parse.proofs.SpanLaws.{tokens_within, tokens_rise, tokens_sorted}
 use Rattle.tsm_parse.proofs.lexer.tokens.Goals as goal
 
@@ -22,26 +21,19 @@ returns-in_err-count-clause-refused c =
     let p = err_from_is_err_and c.from_residual.result c.from_residual.ensures.1 in
     rw (p.1, p.2) (piece_stops text at c.loop-at-test.true _ _ _ _ c.loop-at.invariant.there is c.loop-at.invariant.cuts c.in_err-count.ensures.refused)
 
-pub slice_bounds-place_behind-end : goal.slice_bounds-place_behind-end
-slice_bounds-place_behind-end c =
-    let text = c.args.text.now in
-    let at = c.loop-at.at in
-    let within = taken_within text at c.loop-at-test.true _ _ _ _ _ (c.piece_at-piece.ensures ∙ ap piece_at (take_rest text at)) c.in_ok-count.ensures.taken in
-    sym (count_on text at c.in_ok-count.count within.1)
-
-pub place_behind-place-requires-clause-col : goal.place_behind-place-requires-clause-col
-place_behind-place-requires-clause-col c =
-    let text = c.args.text.now in
-    let at = c.loop-at.at in
-    let within = taken_within text at c.loop-at-test.true _ _ _ _ _ (c.piece_at-piece.ensures ∙ ap piece_at (take_rest text at)) c.in_ok-count.ensures.taken in
-    omega (arith, count_on text at c.in_ok-count.count within.1, col_at text at c.loop-at.place c.loop-at.invariant.within c.loop-at.invariant.there, c.requires)
-
-pub overflow_add-at : goal.overflow_add-at
-overflow_add-at c =
+pub overflow_add-end : goal.overflow_add-end
+overflow_add-end c =
     let text = c.args.text.now in
     let at = c.loop-at.at in
     let within = taken_within text at c.loop-at-test.true _ _ _ _ _ (c.piece_at-piece.ensures ∙ ap piece_at (take_rest text at)) c.in_ok-count.ensures.taken in
     omega (arith, within.1, c.requires)
+
+pub further-place-requires-clause-within : goal.further-place-requires-clause-within
+further-place-requires-clause-within c =
+    let text = c.args.text.now in
+    let at = c.loop-at.at in
+    let within = taken_within text at c.loop-at-test.true _ _ _ _ _ (c.piece_at-piece.ensures ∙ ap piece_at (take_rest text at)) c.in_ok-count.ensures.taken in
+    within.1
 
 pub loop-at-smaller : goal.loop-at-smaller
 loop-at-smaller c =
@@ -59,7 +51,7 @@ loop-at-preserved c =
     let within = taken_within text at c.loop-at-test.true _ _ _ _ _ is c.in_ok-count.ensures.taken in
     record {
       within = within.1;
-      there = c.place_behind-place.ensures (take at text) c.loop-at.invariant.there ∙ ap place_behind (take_on text at n);
+      there = c.further-place.ensures;
       cuts = piece_rests text at c.loop-at-test.true _ _ n _ _ c.loop-at.invariant.there is c.in_ok-count.ensures.taken c.loop-at.invariant.cuts;
     }
 

@@ -1,5 +1,5 @@
 use Rattle.std.proofs.Common.{◌≡◌, ◌-◌, ◌≤◌, length, take}
-use Rattle.tsm_parse.specs.Tokens.{place_behind}
+use Rattle.ila_base.specs.Places.{place_behind}
 use Rattle.tsm_parse.proofs.StepLaws.{Rests}
 use Rattle.tsm_parse.proofs.lexer.tokens.Given as goal
 

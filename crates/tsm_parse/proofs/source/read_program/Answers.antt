@@ -1,7 +1,8 @@
 use Rattle.std.proofs.Common.{sym, ◌∙◌, ap}
 use Rattle.tsm_parse.specs.Lexemes.{lexemes}
 use Rattle.tsm_parse.specs.Programs.{program}
-use Rattle.tsm_parse.proofs.SourceLaws.{read_is_program, gives_stuck, syntax_fault}
+use Rattle.grammar.proofs.FaultLaws.{gives_stuck}
+use Rattle.tsm_parse.proofs.SourceLaws.{read_is_program, syntax_fault}
 use Rattle.tsm_parse.proofs.source.read_program.Goals as goal
 
 pub returns-in-Ok-clause-ok : goal.returns-in-Ok-clause-ok

@@ -1,5 +1,5 @@
 use Rattle.std.proofs.Common.{refl}
-use Rattle.grammar.specs.ListLaws.{one_value}
+use Rattle.grammar.proofs.ListLaws.{one_value}
 use Rattle.vlog_parse.specs.Lexemes.{lexemes}
 use Rattle.vlog_parse.specs.Design.{design}
 use Rattle.vlog_parse.proofs.DesignLaws.{design_good}

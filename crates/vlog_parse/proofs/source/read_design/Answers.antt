@@ -2,7 +2,8 @@ use Rattle.std.proofs.Common.{sym, ◌∙◌, ap}
 use Rattle.vlog_parse.specs.Lexemes.{lexemes}
 use Rattle.vlog_parse.specs.Design.{design_over}
 use Rattle.vlog_parse.specs.Skipping.{cut}
-use Rattle.vlog_parse.proofs.ParseLaws.{read_is_cut, gives_stuck}
+use Rattle.grammar.proofs.FaultLaws.{gives_stuck}
+use Rattle.vlog_parse.proofs.ParseLaws.{read_is_cut}
 use Rattle.vlog_parse.proofs.source.read_design.Goals as goal
 
 pub returns-in-Ok-clause-ok : goal.returns-in-Ok-clause-ok

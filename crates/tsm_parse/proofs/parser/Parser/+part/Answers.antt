@@ -1,6 +1,6 @@
 use Rattle.std.proofs.Common.{sym, ◌∙◌}
-use Rattle.grammar.specs.ListLaws.{separated}
-use Rattle.grammar.specs.LoopLaws.{part_taken}
+use Rattle.grammar.specs.Rule.{separated}
+use Rattle.grammar.proofs.LoopLaws.{part_taken}
 use Rattle.tsm_parse.specs.declared.token.Sort.TheVariants.{AndAnd, OrOr}
 use Rattle.tsm_parse.specs.Lexemes.{is}
 use Rattle.tsm_parse.specs.Conditions.{all_over, part_within}

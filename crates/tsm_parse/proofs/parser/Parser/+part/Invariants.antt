@@ -1,7 +1,6 @@
 use Rattle.std.proofs.Common.{◌≡◌, ◌+◌, ◌*◌, length}
-use Rattle.grammar.specs.Rule.{list, repeat}
-use Rattle.grammar.specs.ListLaws.{separated}
-use Rattle.grammar.specs.LoopLaws.{behind}
+use Rattle.grammar.specs.Rule.{list, repeat, separated}
+use Rattle.grammar.proofs.LoopLaws.{behind}
 use Rattle.tsm_parse.specs.declared.token.Sort.TheVariants.{AndAnd, OrOr}
 use Rattle.tsm_parse.specs.Lexemes.{is}
 use Rattle.tsm_parse.specs.Conditions.{all_over, part_within}

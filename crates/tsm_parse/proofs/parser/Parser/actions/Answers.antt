@@ -1,5 +1,5 @@
 use Rattle.std.proofs.Common.{sym, ◌∙◌}
-use Rattle.grammar.specs.LoopLaws.{part_taken}
+use Rattle.grammar.proofs.LoopLaws.{part_taken}
 use Rattle.tsm_parse.specs.Lexemes.{of_sort}
 use Rattle.tsm_parse.specs.Programs.{is_act, action}
 use Rattle.tsm_parse.proofs.ProgramLaws.{action_shrinks}

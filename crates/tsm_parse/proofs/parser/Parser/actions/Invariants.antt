@@ -1,6 +1,6 @@
 use Rattle.std.proofs.Common.{◌≡◌, length}
 use Rattle.grammar.specs.Rule.{repeat}
-use Rattle.grammar.specs.LoopLaws.{behind}
+use Rattle.grammar.proofs.LoopLaws.{behind}
 use Rattle.tsm_parse.specs.Lexemes.{of_sort}
 use Rattle.tsm_parse.specs.Programs.{is_act, action}
 use Rattle.tsm_parse.proofs.parser.Parser.actions.Given as goal

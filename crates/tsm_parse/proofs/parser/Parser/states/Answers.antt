@@ -1,6 +1,6 @@
 use Rattle.std.proofs.Common.{◌≡◌, List, [], ◌∷◌, ◌++◌, ap, sym, ◌∙◌}
 use Rattle.tsm_parse.specs.declared.types.AstState.{AstState}
-use Rattle.grammar.specs.LoopLaws.{part_taken}
+use Rattle.grammar.proofs.LoopLaws.{part_taken}
 use Rattle.tsm_parse.specs.declared.token.Sort.TheVariants.{State}
 use Rattle.tsm_parse.specs.Lexemes.{is}
 use Rattle.tsm_parse.specs.Programs.{state}

@@ -1,6 +1,6 @@
 use Rattle.std.proofs.Common.{◌≡◌, length}
 use Rattle.grammar.specs.Rule.{repeat}
-use Rattle.grammar.specs.LoopLaws.{behind}
+use Rattle.grammar.proofs.LoopLaws.{behind}
 use Rattle.tsm_parse.specs.declared.token.Sort.TheVariants.{State}
 use Rattle.tsm_parse.specs.Lexemes.{is}
 use Rattle.tsm_parse.specs.Programs.{state, states}

@@ -2,7 +2,7 @@ use Rattle.std.proofs.Common.{sym, ◌∙◌}
 use Rattle.vlog_parse.specs.declared.sort.Sort.TheVariants.{Comma}
 use Rattle.vlog_parse.specs.Expressions.{is}
 use Rattle.vlog_parse.proofs.CutLaws.{next_part, next_shrinks, next_took}
-use Rattle.grammar.specs.LoopLaws.{part_taken}
+use Rattle.grammar.proofs.LoopLaws.{part_taken}
 use Rattle.vlog_parse.proofs.parser.Parser.+expr.Goals as goal
 
 pub args-parts-smaller : goal.args-parts-smaller

@@ -1,10 +1,9 @@
 use Rattle.std.proofs.Common.{◌≡◌, ◌+◌, ◌*◌, length}
-use Rattle.grammar.specs.Rule.{repeat}
-use Rattle.grammar.specs.ListLaws.{separated}
+use Rattle.grammar.specs.Rule.{repeat, separated}
 use Rattle.vlog_parse.specs.declared.sort.Sort.TheVariants.{Comma}
 use Rattle.vlog_parse.specs.Expressions.{is, args}
 use Rattle.vlog_parse.specs.Skipping.{cut_within}
-use Rattle.grammar.specs.LoopLaws.{behind}
+use Rattle.grammar.proofs.LoopLaws.{behind}
 use Rattle.vlog_parse.proofs.parser.Parser.+expr.Given as goal
 
 abbrev pub decreases-args : goal.decreases-args

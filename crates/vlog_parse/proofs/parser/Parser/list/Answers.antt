@@ -1,8 +1,8 @@
 use Rattle.std.proofs.Common.{sym, ◌∙◌}
-use Rattle.grammar.specs.ListLaws.{separated}
+use Rattle.grammar.specs.Rule.{separated}
 use Rattle.vlog_parse.specs.Expressions.{is}
 use Rattle.vlog_parse.specs.Readers.{rule_of}
-use Rattle.grammar.specs.LoopLaws.{part_taken, separated_shrinks}
+use Rattle.grammar.proofs.LoopLaws.{part_taken, separated_shrinks}
 use Rattle.vlog_parse.proofs.parser.Parser.list.Goals as goal
 
 pub parts-preserved : goal.parts-preserved

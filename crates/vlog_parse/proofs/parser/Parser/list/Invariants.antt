@@ -1,9 +1,8 @@
 use Rattle.std.proofs.Common.{◌≡◌, length}
-use Rattle.grammar.specs.Rule.{repeat}
-use Rattle.grammar.specs.ListLaws.{separated}
+use Rattle.grammar.specs.Rule.{repeat, separated}
 use Rattle.vlog_parse.specs.Expressions.{is}
 use Rattle.vlog_parse.specs.Readers.{rule_of, list_reader}
-use Rattle.grammar.specs.LoopLaws.{behind}
+use Rattle.grammar.proofs.LoopLaws.{behind}
 use Rattle.vlog_parse.proofs.parser.Parser.list.Given as goal
 
 abbrev pub invariant-parts : goal.invariant-parts

@@ -1,6 +1,6 @@
 use Rattle.std.proofs.Common.{sym, ◌∙◌}
 use Rattle.vlog_parse.specs.Readers.{rule_of}
-use Rattle.grammar.specs.LoopLaws.{part_taken}
+use Rattle.grammar.proofs.LoopLaws.{part_taken}
 use Rattle.vlog_parse.proofs.parser.Parser.repeat.Goals as goal
 
 pub parts-preserved : goal.parts-preserved

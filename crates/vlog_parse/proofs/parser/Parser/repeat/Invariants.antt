@@ -1,7 +1,7 @@
 use Rattle.std.proofs.Common.{◌≡◌, length}
 use Rattle.grammar.specs.Rule.{repeat}
 use Rattle.vlog_parse.specs.Readers.{rule_of, repeat_reader}
-use Rattle.grammar.specs.LoopLaws.{behind}
+use Rattle.grammar.proofs.LoopLaws.{behind}
 use Rattle.vlog_parse.proofs.parser.Parser.repeat.Given as goal
 
 abbrev pub invariant-parts : goal.invariant-parts
