@@ -10,8 +10,8 @@ use net_core::Machine;
 
 /// Writes the text of each clock of a run, and may keep what it needs of the clocks before.
 pub trait ClockText {
-    // The bytes of a clock, from the bits of the nets at this clock and those before it. It serves a
-    // netlist. It follows the bits of a run up to a clock: all before this one were written.
+    // The bytes of a clock, from the bits of the nets at this clock and those before it. It serves
+    // a netlist. It follows the bits of a run up to a clock: all clocks before this were written.
     ghost text: { Self → (ℕ → ℕ → Bool) → ℕ → List ℕ };
 
     ghost serves: { Self → Netlist → Type 0 };

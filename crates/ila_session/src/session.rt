@@ -56,7 +56,8 @@ fn show_clocks<M: Machine, S: Source, K: Sink, T: ClockText>(
     trace: &mut K,
 ) -> Result<u64, SessionFault>
     requires size { length stim.old.bits ≡ length (input_nets (M.netlist machine.old)) }
-    requires fresh { StandsFor (M.netlist machine.old) (M.bit machine.old) (M.content machine.old) [] }
+    requires fresh { StandsFor (M.netlist machine.old) (M.bit machine.old)
+        (M.content machine.old) [] }
     requires serves { T.serves text.old (M.netlist machine.old) }
     requires follows { (bit : ℕ → ℕ → Bool) → T.follows text.old bit 0 }
     ensures same { M.netlist machine.new ≡ M.netlist machine.old }
@@ -98,11 +99,13 @@ pub fn show_text<M: Machine, S: Source, K: Sink, T: ClockText>(
     trace: &mut K,
 ) -> Result<u64, SessionFault>
     requires size { length stim.old.bits ≡ length (input_nets (M.netlist machine.old)) }
-    requires fresh { StandsFor (M.netlist machine.old) (M.bit machine.old) (M.content machine.old) [] }
+    requires fresh { StandsFor (M.netlist machine.old) (M.bit machine.old)
+        (M.content machine.old) [] }
     requires serves { T.serves text.old (M.netlist machine.old) }
     requires follows { (bit : ℕ → ℕ → Bool) → T.follows text.old bit 0 }
     ensures same { M.netlist machine.new ≡ M.netlist machine.old }
-    ensures ends { Ends (record { head = head.now; clock = T.text text.old }) (M.netlist machine.old)
+    ensures ends { Ends (record { head = head.now; clock = T.text text.old })
+        (M.netlist machine.old)
         (session_of M.Machine S.Source K.Sink machine.old stim.old source.old trace.old)
         (session_of M.Machine S.Source K.Sink machine.new stim.new source.new trace.new) result }
     ensures again { (why : StimRefusal) → stim.old.refused ≡ Some why
@@ -117,10 +120,10 @@ pub fn show_text<M: Machine, S: Source, K: Sink, T: ClockText>(
     show_clocks(machine, text, stim, source, trace)
 }
 
-/// Simulates the rows of a stimulus, which has given none, and appends the outputs text to the trace:
-/// a line with the names of the output ports, and for each clock a line with their values. Gives the
-/// number of clocks. It takes its memory before it writes and before it reads. The line of a clock
-/// is written before the next row is read.
+/// Simulates the rows of a stimulus, which has given none, and appends the outputs text to the
+/// trace: a line with the names of the output ports, and for each clock a line with their values.
+/// Gives the number of clocks. It takes its memory before it writes and before it reads. The line
+/// of a clock is written before the next row is read.
 pub fn show<M: Machine, S: Source, K: Sink>(
     alloc: Global,
     machine: &mut M,
