@@ -39,13 +39,13 @@ range_more a (suc n) =
     let same : (a + 1) + n ≡ a + suc n = omega arith in
     ap (λ ks. a ∷ ks) (range_more (a + 1) n ∙ ap (λ k. range_with_len (a + 1) n ++ k ∷ []) same)
 
-text_more : (text : RunText) (h : History) (rows : List (List Bool)) (row : List Bool)
-    → text_of text h (length (rows ++ row ∷ [])) ≡ text_of text h (length rows) ++ text.clock h.bit (length rows)
+text_more : (text : RunText ℕ) (h : History) (rows : List (List Bool)) (row : List Bool)
+    → text_of text h.bit (length (rows ++ row ∷ [])) ≡ text_of text h.bit (length rows) ++ text.clock h.bit (length rows)
 text_more text h rows row =
     let f : ℕ → List ℕ = text.clock h.bit in
     let n : ℕ = length rows in
     let all : length (rows ++ row ∷ []) ≡ suc n = omega (arith, length-append rows (row ∷ [])) in
-    ap (text_of text h) all ∙ (ap (λ ts. text.head ++ flat_map f ts) (range_more 0 n) ∙ (ap (λ ys. text.head ++ ys) (flat_map-append f (range_with_len 0 n) ((0 + n) ∷ [])
+    ap (text_of text h.bit) all ∙ (ap (λ ts. text.head ++ flat_map f ts) (range_more 0 n) ∙ (ap (λ ys. text.head ++ ys) (flat_map-append f (range_with_len 0 n) ((0 + n) ∷ [])
     ∙ (ap (λ k. flat_map f (range_with_len 0 n) ++ flat_map f (k ∷ [])) (zero_add n) ∙ ap (λ ys. flat_map f (range_with_len 0 n) ++ ys) (append-nil (f n))))
     ∙ sym (append_assoc text.head (flat_map f (range_with_len 0 n)) (f n))))
   where
@@ -63,11 +63,11 @@ at_last net own same bit content rows row stands Follows Gives follows gives h r
     (subst (λ n. SameBits n bit (h.bit (length rows))) (sym same) (last_bits net bit content rows row stands h run))
 
 -- one clock more was shown, or a front of its text
-pub shows_more : (text : RunText) (net : Netlist) (rows : List (List Bool)) (row : List Bool) (old mid new : Option (List ℕ)) → Shows text net rows old mid
+pub shows_more : (text : RunText ℕ) (net : Netlist) (rows : List (List Bool)) (row : List Bool) (old mid new : Option (List ℕ)) → Shows text net rows old mid
     → ((h : History) → IsRun net (rows ++ row ∷ []) h → Appends mid new (text.clock h.bit (length rows))) → Shows text net (rows ++ row ∷ []) old new
 shows_more text net rows row old mid new before more h run =
     subst (Appends old new) (sym (text_more text h rows row))
-    (Appends-trans old mid new (text_of text h (length rows)) (text.clock h.bit (length rows)) (before h (cut_run net rows (row ∷ []) h run)) (more h run))
+    (Appends-trans old mid new (text_of text h.bit (length rows)) (text.clock h.bit (length rows)) (before h (cut_run net rows (row ∷ []) h run)) (more h run))
 
 -- behind the clocks before, a front of the last one's text was put
 clocks_front : (text : ℕ → List ℕ) (clocks all : ℕ) (line : List ℕ) → all ≡ suc clocks → text all ≡ text clocks ++ line → (old mid new : Option (List ℕ)) → Appends old mid (text clocks)
@@ -79,10 +79,10 @@ clocks_front text clocks all line one grown old mid new before (n, front) = reco
       (Appends-trans old mid new (text clocks) (take n line) before front);
 }
 
-pub shows_front : (text : RunText) (net : Netlist) (rows : List (List Bool)) (row : List Bool) (old mid new : Option (List ℕ)) → Shows text net rows old mid
+pub shows_front : (text : RunText ℕ) (net : Netlist) (rows : List (List Bool)) (row : List Bool) (old mid new : Option (List ℕ)) → Shows text net rows old mid
     → ((h : History) → IsRun net (rows ++ row ∷ []) h → AppendsFront mid new (text.clock h.bit (length rows))) → ShowsFront text net (rows ++ row ∷ []) old new
 shows_front text net rows row old mid new before more h run =
-    clocks_front (text_of text h) (length rows) (length (rows ++ row ∷ [])) (text.clock h.bit (length rows)) (omega (arith, length-append rows (row ∷ []))) (text_more text h rows row)
+    clocks_front (text_of text h.bit) (length rows) (length (rows ++ row ∷ [])) (text.clock h.bit (length rows)) (omega (arith, length-append rows (row ∷ []))) (text_more text h rows row)
     old mid new (before h (cut_run net rows (row ∷ []) h run)) (more h run)
 
 -- before the first row nothing is shown

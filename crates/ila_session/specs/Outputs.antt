@@ -53,11 +53,11 @@ abbrev pub clock_lines : Netlist → History → ℕ → List ℕ
 clock_lines net history clocks = flat_map (λ t. clock_line net (history.bit t)) (range_with_len 0 clocks)
 
 -- the outputs text as a text of a run
-abbrev pub outputs_of : Netlist → RunText
+abbrev pub outputs_of : Netlist → RunText ℕ
 outputs_of net = record { head = header_line net; clock = λ bit t. clock_line net (bit t) }
 
 abbrev pub outputs_text : Netlist → History → ℕ → List ℕ
-outputs_text net = text_of (outputs_of net)
+outputs_text net history = text_of (outputs_of net) history.bit
 
 -- what stands before one more word of a line: a space, if it isn't the first
 abbrev pub space_before : ℕ → List ℕ

@@ -2,16 +2,15 @@
 use Rattle.std.specs.Prelude.{ℕ, zero, suc, ◌≤◌, Bool, List, [], ◌++◌, length, take, Option}
 use Rattle.std.specs.List.{flat_map, range_with_len}
 use Rattle.std.specs.Io.KnownBytes.{Appends}
-use Rattle.net_core.specs.Run.{History}
 
--- what stands before the first clock, and the bytes of clock t, from the bits of the nets at each clock
-pub record RunText : Type 0 where
+-- what stands before the first clock, and the bytes of clock t, from the bits at each clock: those of a netlist's nets, or of a design
+pub record RunText (B : Type 0) : Type 0 where
   pub head : List ℕ
-  pub clock : (ℕ → ℕ → Bool) → ℕ → List ℕ
+  pub clock : (ℕ → B → Bool) → ℕ → List ℕ
 
--- the text of the first clocks of a history
-abbrev pub text_of : RunText → History → ℕ → List ℕ
-text_of text history clocks = text.head ++ flat_map (text.clock history.bit) (range_with_len 0 clocks)
+-- the text of the first clocks
+abbrev pub text_of : {B : Type 0} → RunText B → (ℕ → B → Bool) → ℕ → List ℕ
+text_of text bit clocks = text.head ++ flat_map (text.clock bit) (range_with_len 0 clocks)
 
 -- of a text of so many clocks, what comes before the last clock: the text of one clock less, and nothing where there is none
 abbrev pub text_before : (ℕ → List ℕ) → ℕ → List ℕ

@@ -45,12 +45,12 @@ abbrev pub IsRefusedAt : Reading → Option (List ℕ) → List (List Bool) → 
 IsRefusedAt before left rows why after = ((before.refused ≡ Some why) × (rows ≡ [])) ⊎ RefusesBehind before left rows why after
 
 -- the text of the run over the rows was put behind what was written
-abbrev pub Shows : RunText → Netlist → List (List Bool) → Option (List ℕ) → Option (List ℕ) → Type 0
-Shows text net rows old new = (history : History) → IsRun net rows history → Appends old new (text_of text history (length rows))
+abbrev pub Shows : RunText ℕ → Netlist → List (List Bool) → Option (List ℕ) → Option (List ℕ) → Type 0
+Shows text net rows old new = (history : History) → IsRun net rows history → Appends old new (text_of text history.bit (length rows))
 
 -- a front of it, with all before the last clock
-abbrev pub ShowsFront : RunText → Netlist → List (List Bool) → Option (List ℕ) → Option (List ℕ) → Type 0
-ShowsFront text net rows old new = (history : History) → IsRun net rows history → AppendsClocksFront (text_of text history) (length rows) old new
+abbrev pub ShowsFront : RunText ℕ → Netlist → List (List Bool) → Option (List ℕ) → Option (List ℕ) → Type 0
+ShowsFront text net rows old new = (history : History) → IsRun net rows history → AppendsClocksFront (text_of text history.bit) (length rows) old new
 
 -- so for the outputs text
 abbrev pub ShowsRun : Netlist → List (List Bool) → Option (List ℕ) → Option (List ℕ) → Type 0
@@ -88,7 +88,7 @@ Showed net before rows after = ShowedRows net before.reading before.left rows af
 
 -- What a session ends in: the number of rows, once there is no more; a refused line behind them; or a fault. After each answer the
 -- rows that were taken, and what of the text was written.
-abbrev pub Ends : RunText → Netlist → Session → Session → Result ℕ SessionFault → Type 0
+abbrev pub Ends : RunText ℕ → Netlist → Session → Session → Result ℕ SessionFault → Type 0
 Ends text net before after (Ok clocks) = (rows : List (List Bool)) × (clocks ≡ length rows) × IsAtEnd (rest after.reading after.left)
     × Showed net before rows after × Shows text net rows before.written after.written
 Ends text net before after (Err (Stimulus why)) = (rows : List (List Bool)) × IsRefusedAt before.reading before.left rows why after.left
