@@ -2,7 +2,7 @@
 """Compares the program with another simulator, and prints a table.
 
 usage: measure/compare.py PROGRAM [CLOCKS [DRAWN]]
-It is started at the top of the repository, and needs yosys and Icarus Verilog.
+It is started at the top of the repository, and needs yosys and Icarus Verilog (yosys, iverilog, vvp).
 
 Each design of measure/designs is synthesized by yosys as docs/NETLISTS.md says, once with its hierarchy and once flattened.
 Beside these, netlists are drawn at random (measure/random_netlists.py). Each netlist is simulated by the program and, with
@@ -13,13 +13,23 @@ import json
 import os
 import random
 import re
+import shutil
 import subprocess
 import sys
 import tempfile
 
 import random_netlists
 
-MODELS = "/usr/share/yosys/xilinx/cells_sim.v"
+TOOLS = ["yosys", "iverilog", "vvp"]
+
+
+def models():
+    """The file with yosys's models of the cells, in the folder of data that belongs to the yosys that is found."""
+    if shutil.which("yosys-config"):
+        folder = subprocess.run(["yosys-config", "--datdir"], check=True, capture_output=True, text=True).stdout.strip()
+    else:
+        folder = os.path.join(os.path.dirname(os.path.dirname(os.path.realpath(shutil.which("yosys")))), "share", "yosys")
+    return os.path.join(folder, "xilinx", "cells_sim.v")
 
 
 def synthesize(folder, source, top, flatten):
@@ -79,7 +89,7 @@ def by_icarus(folder, top, ports, given):
     """What Icarus prints."""
     with open(os.path.join(folder, "bench.v"), "w") as out:
         out.write(bench(top, ports, given))
-    subprocess.run(["iverilog", "-g2012", "-o", "bench", "-s", "bench", "bench.v", "net.v", MODELS], cwd=folder, check=True)
+    subprocess.run(["iverilog", "-g2012", "-o", "bench", "-s", "bench", "bench.v", "net.v", models()], cwd=folder, check=True)
     done = subprocess.run(["vvp", "-n", "bench"], cwd=folder, check=True, capture_output=True, text=True)
     return done.stdout
 
@@ -130,6 +140,9 @@ def drawn(program, seed, cells, clocks):
 
 
 def main():
+    lacking = [tool for tool in TOOLS if not shutil.which(tool)]
+    if lacking:
+        sys.exit(f"compare: there is no {' and no '.join(lacking)} here")
     program, clocks = os.path.abspath(sys.argv[1]), int(sys.argv[2]) if len(sys.argv) > 2 else 1000
     count = int(sys.argv[3]) if len(sys.argv) > 3 else 100
     folder, all_same = os.path.abspath(os.path.join("measure", "designs")), True

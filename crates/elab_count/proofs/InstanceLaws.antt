@@ -17,7 +17,7 @@ use Rattle.vlog_check.specs.Scope.{value_of, numbered_from, module_names, module
 use Rattle.vlog_check.proofs.LeastLaws.{take_step}
 use Rattle.net_core.proofs.ListLemmas.{filter_map_some, filter_map_at}
 use Rattle.net_graph.specs.declared.graph.Graph.{Graph}
-use Rattle.net_graph.specs.Reach.{is_marked, IsIn}
+use Rattle.net_graph.specs.Lists.{is_marked, IsIn}
 use Rattle.net_graph.specs.Rows.{AreRows}
 use Rattle.flat_settle.specs.Tables.{row_of}
 use Rattle.flat_settle.proofs.RowLemmas.{AreRowsBelow, rows_all, edges_all}

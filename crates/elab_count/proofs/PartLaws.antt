@@ -7,7 +7,8 @@ use Rattle.vlog_parse.specs.declared.tree.Tree.{Tree}
 use Rattle.vlog_check.specs.Checked.{Contains, IsBelow, child, deeper}
 use Rattle.net_graph.specs.declared.graph.Graph.{Graph}
 use Rattle.net_graph.specs.Graph.{Leads, IsCycle}
-use Rattle.net_graph.specs.Reach.{Reaches, itself, along, is_marked}
+use Rattle.net_graph.specs.Reach.{Reaches, itself, along}
+use Rattle.net_graph.specs.Lists.{is_marked}
 use Rattle.elab_scope.specs.Counting.{IsPart}
 use Rattle.elab_count.specs.Instances.{IsInstanceGraph, IsSorting, AreInOrder}
 

@@ -11,7 +11,7 @@ use Rattle.vlog_parse.specs.declared.tree.Item.TheVariants as items
 use Rattle.vlog_parse.specs.declared.tree.Inst.{Inst}
 use Rattle.vlog_parse.specs.ReadTree.{In}
 use Rattle.vlog_check.specs.Scope.{module_number, cell_of}
-use Rattle.net_graph.specs.Reach.{is_marked}
+use Rattle.net_graph.specs.Lists.{is_marked}
 use Rattle.net_graph.proofs.ListLemmas.{slice_get_set_same, slice_get_set_other}
 use Rattle.elab_scope.specs.declared.amounts.Count.{Count}
 use Rattle.elab_scope.specs.declared.numbers.Part.{Part}

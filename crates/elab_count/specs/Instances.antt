@@ -7,7 +7,7 @@ use Rattle.vlog_parse.specs.declared.tree.Item.TheVariants as items
 use Rattle.vlog_check.specs.Checked.{Contains}
 use Rattle.net_graph.specs.declared.graph.Graph.{Graph}
 use Rattle.net_graph.specs.Graph.{Leads, node_count}
-use Rattle.net_graph.specs.Reach.{is_marked}
+use Rattle.net_graph.specs.Lists.{is_marked}
 use Rattle.elab_scope.specs.declared.numbers.Part.{Part}
 use Rattle.elab_scope.specs.declared.numbers.Part.TheVariants as parts
 use Rattle.elab_scope.specs.Counting.{part_of}

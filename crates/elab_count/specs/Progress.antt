@@ -2,7 +2,7 @@
 use Rattle.std.specs.Prelude.{◌≡◌, ℕ, ◌<◌, Bool, true, false, ◌⊎◌, List, slice_set, length, slice_get, Option, Some}
 use Rattle.vlog_parse.specs.declared.tree.Tree.{Tree}
 use Rattle.vlog_parse.specs.declared.tree.Module.{Module}
-use Rattle.net_graph.specs.Reach.{is_marked}
+use Rattle.net_graph.specs.Lists.{is_marked}
 use Rattle.elab_scope.specs.declared.amounts.Count.{Count}
 use Rattle.elab_scope.specs.Counting.{capped, module_count}
 use Rattle.elab_count.specs.Amounts.{AreCapped}

@@ -3,7 +3,7 @@ ghost use Rattle.vlog_parse.specs.ReadTree.{IsReadTree};
 ghost use Rattle.vlog_check.specs.Checked.{IsChecked, IsBelow};
 ghost use Rattle.vlog_check.specs.Scope.{module_number};
 ghost use Rattle.net_graph.specs.Graph.{IsCycle, Leads};
-ghost use Rattle.net_graph.specs.Reach.{is_marked};
+ghost use Rattle.net_graph.specs.Lists.{is_marked};
 ghost use Rattle.elab_scope.specs.Counting.{AreCounts, IsPart};
 ghost use Rattle.elab_scope.specs.Modules.{AreNumbered};
 ghost use Rattle.elab_scope.specs.Nets.{AreNetsOfAll};

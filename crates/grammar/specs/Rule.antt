@@ -1,6 +1,6 @@
 -- The words that grammars are written with. A rule says which lists of tokens stand for which values, and how such a list is
 -- read from left to right with one token of lookahead.
-use Rattle.std.specs.Prelude.{◌≡◌, ℕ, zero, suc, Bool, true, false, List, [], ◌∷◌, ◌++◌, length, Option, Some, None, if◌then◌else◌, ◌⊎◌}
+use Rattle.std.specs.Prelude.{◌≡◌, ℕ, zero, suc, ◌<◌, ◌≤◌, Bool, true, false, List, [], ◌∷◌, ◌++◌, length, Option, Some, None, if◌then◌else◌, ◌⊎◌}
 
 -- a language: which lists of tokens stand for which values
 abbrev pub Language : Type 0 → Type 0 → Type 1
@@ -107,9 +107,21 @@ unbounded within = record {
 abbrev pub optional : {T A : Type 0} → (T → Bool) → Rule T A → Rule T (Option A)
 optional passes rule = either passes (do value ← rule; pure (Some value)) (pure None)
 
+-- The separator and what stands behind it.
+abbrev pub separated : {T A : Type 0} → (T → Bool) → Rule T A → Rule T A
+separated separates rule = do _ ← token separates; rule
+
 -- One or more of a rule, with a separator between two.
 abbrev pub list : {T A : Type 0} → (T → Bool) → Rule T A → Rule T (List A)
 list separates rule = do
   x ← rule
-  xs ← repeat separates (do _ ← token separates; rule)
+  xs ← repeat separates (separated separates rule)
   pure (x ∷ xs)
+
+-- What is taken leaves fewer tokens.
+abbrev pub Shrinks : {T A : Type 0} → Rule T A → Type 0
+Shrinks {T} {A} rule = (ts rest : List T) (x : A) → rule.read ts ≡ Took x rest → length rest < length ts
+
+-- What is taken leaves no more tokens than there were.
+abbrev pub Keeps : {T A : Type 0} → Rule T A → Type 0
+Keeps {T} {A} rule = (ts rest : List T) (x : A) → rule.read ts ≡ Took x rest → length rest ≤ length ts

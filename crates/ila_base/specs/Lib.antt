@@ -1,3 +1,7 @@
+pub mod Bytes
+pub mod Places
+pub mod Stops
+pub mod Comparison
 pub mod Faults
 pub mod FaultLaws
 pub mod Files

@@ -1,6 +1,6 @@
 use crate::{
-    Items, LoadFault, MemShelf, MemSink, MemSource, Name, Shelf, Sink, Source, StoreFault,
-    write_all,
+    BasicCond, Compare, Digit, Digits, Items, Join, LoadFault, MemShelf, MemSink, MemSource, Name,
+    Op, Place, Shelf, Sink, Source, StoreFault, numeral_value, write_all,
 };
 use std::test::Fail;
 
@@ -73,5 +73,85 @@ fn a_shelf_of_files(rt: HostRuntime) -> Result<(), Fail> {
     assert_eq!(rt; shelf.file("a.v").unwrap_or(b""), b"three".as_slice());
     assert_eq!(rt; shelf.file("b.v").unwrap_or(b""), b"two".as_slice());
     assert!(rt; shelf.file("c.v").is_none());
+    Ok(())
+}
+
+// Each digit alone: its letter, and whether it matches 0 then 0, 0 then 1, 1 then 0, and 1 then 1.
+const DIGITS: [(Digit, [bool; 4]); 7] = [
+    (Digit::Zero, [true, false, true, false]),
+    (Digit::One, [false, true, false, true]),
+    (Digit::Any, [true, true, true, true]),
+    (Digit::Rise, [false, true, false, false]),
+    (Digit::Fall, [false, false, true, false]),
+    (Digit::Both, [false, true, true, false]),
+    (Digit::Steady, [true, false, false, true]),
+];
+
+// Each operator with 6, which is 110, of 5, 6 and 7.
+const OPERATORS: [(Op, [bool; 3]); 6] = [
+    (Op::Eq, [false, true, false]),
+    (Op::Ne, [true, false, true]),
+    (Op::Lt, [true, false, false]),
+    (Op::Le, [true, true, false]),
+    (Op::Gt, [false, false, true]),
+    (Op::Ge, [false, true, true]),
+];
+
+#[test]
+fn each_digit(rt: HostRuntime) -> Result<(), Fail> {
+    let alloc = rt.alloc();
+    for (digit, matches) in DIGITS {
+        let compare = Compare {
+            probe: 0,
+            op: Op::Eq,
+            digits: Digits::new(vec![in alloc; digit]?),
+        };
+        assert_eq!(rt; compare.holds(0, 0), matches[0]);
+        assert_eq!(rt; compare.holds(0, 1), matches[1]);
+        assert_eq!(rt; compare.holds(1, 0), matches[2]);
+        assert_eq!(rt; compare.holds(1, 1), matches[3]);
+    }
+    Ok(())
+}
+
+#[test]
+fn each_operator(rt: HostRuntime) -> Result<(), Fail> {
+    let alloc = rt.alloc();
+    for (op, holds) in OPERATORS {
+        let digits = vec![in alloc; Digit::Zero, Digit::One, Digit::One]?;
+        let compare = Compare {
+            probe: 0,
+            op,
+            digits: Digits::new(digits),
+        };
+        assert!(rt; compare.is_allowed());
+        assert_eq!(rt; compare.holds(0, 5), holds[0]);
+        assert_eq!(rt; compare.holds(0, 6), holds[1]);
+        assert_eq!(rt; compare.holds(0, 7), holds[2]);
+    }
+    Ok(())
+}
+
+#[test]
+fn a_condition_of_one_probe(rt: HostRuntime) -> Result<(), Fail> {
+    let alloc = rt.alloc();
+    let compare = Compare {
+        probe: 1,
+        op: Op::Ne,
+        digits: Digits::new(vec![in alloc; Digit::Rise]?),
+    };
+    let condition = BasicCond {
+        join: Join::Nor,
+        compares: Items::from_vec(vec![in alloc; compare]?),
+    };
+    assert!(rt; condition.holds(&[0, 0], &[0, 1]), "no comparison is true");
+    assert!(rt; !condition.holds(&[0, 1], &[0, 1]), "one is");
+    Ok(())
+}
+
+#[test]
+fn places_and_numbers(rt: HostRuntime) -> Result<(), Fail> {
+    assert_eq!(rt; Place::behind(b"ab\nc"), Place { line: 2, col: 2 });
+    assert_eq!(rt; numeral_value(16, b"f_F"), Some(255));
     Ok(())
 }

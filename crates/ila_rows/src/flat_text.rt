@@ -1,108 +1,150 @@
-use net_core::{Cell, Flat, Group, NetId, Pin};
-use std::alloc::Global;
-use std::test::Fail;
+//! A flat netlist as the rows write it: a line for each group, cell and port, and one for the clock.
 
-/// A flat netlist as the rows write it: a line for each group, cell and port, and one for the clock.
-#[derive(Drop)]
-pub struct FlatText {
-    alloc: Global,
-    text: Vec<u8>,
+use crate::design::flat_of;
+use crate::fault::Fault;
+use crate::field::Field;
+use crate::line::Line;
+use crate::outcome::Outcome;
+use crate::refusal_text::placed_text;
+use crate::table::Entry;
+use net_core::{Cell, Flat, Group, NetId, Pin, Port};
+use std::alloc::Global;
+
+/// Gives the flat netlist of a row's text, or its refusal, and the numbers of the nets that the row
+/// asks for by their names, `none` where there is no such net.
+pub fn flat(alloc: Global, entry: &Entry<'_>, outcome: &mut Outcome) -> Result<(), Fault> {
+    let text = entry.bytes("text");
+    match flat_of(
+        alloc,
+        text,
+        entry.text("top", "m")?,
+        entry.text("clock", "clk")?,
+    ) {
+        Ok(flat) => {
+            outcome.push("flat", flat_text(alloc, &flat)?)?;
+            give_nets(alloc, &flat, entry.fields, outcome)?;
+            give_nets(alloc, &flat, entry.common, outcome)
+        }
+        Err(stop) => outcome.push("flat", placed_text(alloc, stop)?),
+    }
 }
 
-/// The text of a flat netlist.
-pub fn flat_text(alloc: Global, flat: &Flat) -> Result<Vec<u8>, Fail> {
-    let mut out = FlatText {
-        alloc,
-        text: Vec::new(alloc),
-    };
-    for group in flat.groups() {
-        out.group(group)?;
+fn give_nets(
+    alloc: Global,
+    flat: &Flat,
+    fields: &[Field],
+    outcome: &mut Outcome,
+) -> Result<(), Fault> {
+    for field in fields {
+        if let Some(name) = field.name_behind("net") {
+            outcome.push(field.key.as_str(), net_text(alloc, flat.find(name))?)?;
+        }
     }
-    for cell in flat.cells() {
-        out.cell(cell)?;
+    Ok(())
+}
+
+fn net_text(alloc: Global, net: Option<NetId>) -> Result<Vec<u8>, Fault> {
+    let mut line = Line::new(alloc);
+    match net {
+        Some(net) => line.number(u64::from(net.0))?,
+        None => line.bytes(b"none")?,
     }
-    for port in flat.ports() {
-        out.bytes(if port.output {
+    Ok(line.into_bytes())
+}
+
+fn flat_text(alloc: Global, flat: &Flat) -> Result<Vec<u8>, Fault> {
+    let mut line = Line::new(alloc);
+    write_groups(&mut line, flat.groups())?;
+    write_cells(&mut line, flat.cells())?;
+    write_ports(&mut line, flat.ports())?;
+    line.bytes(b"clock ")?;
+    line.number(u64::from(flat.clock().0))?;
+    line.bytes(b"\n")?;
+    Ok(line.into_bytes())
+}
+
+fn write_groups(line: &mut Line, groups: &[Group]) -> Result<(), Fault> {
+    for group in groups {
+        write_group(line, group)?;
+    }
+    Ok(())
+}
+
+fn write_cells(line: &mut Line, cells: &[Cell]) -> Result<(), Fault> {
+    for cell in cells {
+        write_cell(line, cell)?;
+    }
+    Ok(())
+}
+
+fn write_ports(line: &mut Line, ports: &[Port]) -> Result<(), Fault> {
+    for port in ports {
+        line.bytes(if port.output {
             b"output ".as_slice()
         } else {
             b"input ".as_slice()
         })?;
-        out.number(port.group)?;
-        out.bytes(b"\n")?;
+        line.number(u64::from(port.group))?;
+        line.bytes(b"\n")?;
     }
-    out.bytes(b"clock ")?;
-    out.number(flat.clock().0)?;
-    out.bytes(b"\n")?;
-    let FlatText { alloc: _, text } = out;
-    Ok(text)
+    Ok(())
 }
 
-impl FlatText {
-    fn bytes(&mut self, bytes: &[u8]) -> Result<(), Fail> {
-        self.text.extend_from_slice(bytes)?;
-        Ok(())
+fn write_group(line: &mut Line, group: &Group) -> Result<(), Fault> {
+    line.bytes(group.name.bytes())?;
+    if let Some((left, right)) = group.range {
+        line.span(left, right)?;
     }
-
-    fn number(&mut self, number: u32) -> Result<(), Fail> {
-        let digits = format!(in self.alloc; "{number}")?;
-        self.bytes(digits.as_bytes())
+    for bit in group.bits.as_slice() {
+        write_net(line, *bit)?;
     }
+    line.bytes(b"\n")
+}
 
-    fn group(&mut self, group: &Group) -> Result<(), Fail> {
-        self.bytes(group.name.bytes())?;
-        if let Some((left, right)) = group.range {
-            self.bytes(b"[")?;
-            self.number(left)?;
-            self.bytes(b":")?;
-            self.number(right)?;
-            self.bytes(b"]")?;
-        }
-        for bit in group.bits.as_slice() {
-            self.bytes(b" ")?;
-            self.number(bit.0)?;
-        }
-        self.bytes(b"\n")
+fn write_net(line: &mut Line, net: NetId) -> Result<(), Fault> {
+    line.bytes(b" ")?;
+    line.number(u64::from(net.0))
+}
+
+fn write_pin(line: &mut Line, pin: Pin) -> Result<(), Fault> {
+    match pin {
+        Pin::Net(net) => write_net(line, net),
+        Pin::Zero => line.bytes(b" low"),
+        Pin::One => line.bytes(b" high"),
     }
+}
 
-    fn pin(&mut self, pin: Pin) -> Result<(), Fail> {
-        match pin {
-            Pin::Net(net) => {
-                self.bytes(b" ")?;
-                self.number(net.0)
-            }
-            Pin::Zero => self.bytes(b" low"),
-            Pin::One => self.bytes(b" high"),
-        }
+fn write_pins(line: &mut Line, pins: &[Pin]) -> Result<(), Fault> {
+    for pin in pins {
+        write_pin(line, *pin)?;
     }
+    Ok(())
+}
 
-    fn out(&mut self, out: Option<NetId>) -> Result<(), Fail> {
+fn write_outs(line: &mut Line, outs: &[Option<NetId>]) -> Result<(), Fault> {
+    for out in outs {
         match out {
-            None => self.bytes(b" open"),
-            Some(net) => self.pin(Pin::Net(net)),
+            None => line.bytes(b" open")?,
+            Some(net) => write_net(line, *net)?,
         }
     }
+    Ok(())
+}
 
-    fn cell(&mut self, cell: &Cell) -> Result<(), Fail> {
-        let alloc = self.alloc;
-        let kind = cell.kind;
-        let text = format!(in alloc; "{kind:?}")?;
-        self.bytes(text.as_bytes())?;
-        if let Some(name) = &cell.name {
-            self.bytes(b" ")?;
-            self.bytes(name.bytes())?;
-        }
-        self.bytes(b":")?;
-        for pin in cell.ins.as_slice() {
-            self.pin(*pin)?;
-        }
-        self.bytes(b" >")?;
-        for out in cell.outs.as_slice() {
-            self.out(*out)?;
-        }
-        if let Some(clock) = cell.clock {
-            self.bytes(b" at")?;
-            self.pin(Pin::Net(clock))?;
-        }
-        self.bytes(b"\n")
+fn write_cell(line: &mut Line, cell: &Cell) -> Result<(), Fault> {
+    let kind = cell.kind;
+    let text = format!(in line.alloc(); "{kind:?}")?;
+    line.bytes(text.as_bytes())?;
+    if let Some(name) = &cell.name {
+        line.word(name)?;
     }
+    line.bytes(b":")?;
+    write_pins(line, cell.ins.as_slice())?;
+    line.bytes(b" >")?;
+    write_outs(line, cell.outs.as_slice())?;
+    if let Some(clock) = cell.clock {
+        line.bytes(b" at")?;
+        write_net(line, clock)?;
+    }
+    line.bytes(b"\n")
 }

@@ -1,201 +1,190 @@
+//! A tree as the rows write it: a line for each module and each item, with the place of each name and
+//! constant behind an `@`.
+
+use crate::design::tree_of;
+use crate::fault::Fault;
+use crate::line::Line;
+use crate::outcome::Outcome;
+use crate::refusal_text::placed_text;
+use crate::table::Entry;
 use ila_base::{Name, Place};
 use std::alloc::Global;
-use std::test::Fail;
-use vlog_parse::{Conns, Dir, Expr, Gate, Inst, Item, Module, Range, Tree, Value};
+use vlog_parse::{Conns, Decl, Dir, Expr, Gate, Inst, Item, Module, Tree, Value};
 
-/// A tree as the rows write it: a line for each module and each item, with the place of each name and
-/// constant behind an `@`.
-#[derive(Drop)]
-pub struct TreeText {
-    alloc: Global,
-    text: Vec<u8>,
-}
-
-/// The text of a tree.
-pub fn tree_text(alloc: Global, tree: &Tree) -> Result<Vec<u8>, Fail> {
-    let mut out = TreeText {
-        alloc,
-        text: Vec::new(alloc),
+/// Gives the tree of a row's text, or its refusal.
+pub fn tree(alloc: Global, entry: &Entry<'_>, outcome: &mut Outcome) -> Result<(), Fault> {
+    let value = match tree_of(alloc, entry.bytes("text")) {
+        Ok(tree) => tree_text(alloc, &tree)?,
+        Err(stop) => placed_text(alloc, stop)?,
     };
-    for module in tree.modules.as_slice() {
-        out.module(module)?;
-    }
-    let TreeText { alloc: _, text } = out;
-    Ok(text)
+    outcome.push("tree", value)
 }
 
-impl TreeText {
-    fn bytes(&mut self, bytes: &[u8]) -> Result<(), Fail> {
-        self.text.extend_from_slice(bytes)?;
-        Ok(())
-    }
+/// Gives for each module of a row's text a line with its name and how many ports and items it has.
+pub fn sizes(alloc: Global, entry: &Entry<'_>, outcome: &mut Outcome) -> Result<(), Fault> {
+    let value = match tree_of(alloc, entry.bytes("text")) {
+        Ok(tree) => size_text(alloc, &tree)?,
+        Err(stop) => placed_text(alloc, stop)?,
+    };
+    outcome.push("sizes", value)
+}
 
-    fn number(&mut self, number: u32) -> Result<(), Fail> {
-        let digits = format!(in self.alloc; "{number}")?;
-        self.bytes(digits.as_bytes())
+fn tree_text(alloc: Global, tree: &Tree) -> Result<Vec<u8>, Fault> {
+    let mut line = Line::new(alloc);
+    for module in tree.modules.as_slice() {
+        write_module(&mut line, module)?;
     }
+    Ok(line.into_bytes())
+}
 
-    fn place(&mut self, place: Place) -> Result<(), Fail> {
-        self.bytes(b"@")?;
-        self.number(place.line)?;
-        self.bytes(b":")?;
-        self.number(place.col)
+fn size_text(alloc: Global, tree: &Tree) -> Result<Vec<u8>, Fault> {
+    let mut line = Line::new(alloc);
+    for module in tree.modules.as_slice() {
+        line.bytes(module.name.bytes())?;
+        line.bytes(b" ")?;
+        line.number(module.ports.len() as u64)?;
+        line.bytes(b" ")?;
+        line.number(module.items.len() as u64)?;
+        line.bytes(b"\n")?;
     }
+    Ok(line.into_bytes())
+}
 
-    fn word(&mut self, name: &Name) -> Result<(), Fail> {
-        self.bytes(b" ")?;
-        self.bytes(name.bytes())
+fn write_module(line: &mut Line, module: &Module) -> Result<(), Fault> {
+    line.bytes(b"module")?;
+    line.word(&module.name)?;
+    write_place(line, module.place)?;
+    for port in module.ports.as_slice() {
+        line.word(port)?;
     }
+    line.bytes(b"\n")?;
+    write_items(line, module.items.as_slice())
+}
 
-    fn module(&mut self, module: &Module) -> Result<(), Fail> {
-        self.bytes(b"module")?;
-        self.word(&module.name)?;
-        self.place(module.place)?;
-        for port in module.ports.as_slice() {
-            self.word(port)?;
+fn write_items(line: &mut Line, items: &[Item]) -> Result<(), Fault> {
+    for item in items {
+        write_item(line, item)?;
+        line.bytes(b"\n")?;
+    }
+    Ok(())
+}
+
+fn write_place(line: &mut Line, place: Place) -> Result<(), Fault> {
+    line.bytes(b"@")?;
+    line.place(place)
+}
+
+fn write_item(line: &mut Line, item: &Item) -> Result<(), Fault> {
+    match item {
+        Item::Net(decl) => write_decl(line, decl),
+        Item::Assign(target, value) => {
+            line.bytes(b"assign")?;
+            write_expr(line, target)?;
+            write_expr(line, value)
         }
-        self.bytes(b"\n")?;
-        self.items(module.items.as_slice())
+        Item::Gate(gate) => write_gate(line, gate),
+        Item::Inst(inst) => write_instance(line, inst),
     }
+}
 
-    fn items(&mut self, items: &[Item]) -> Result<(), Fail> {
-        for item in items {
-            self.item(item)?;
-            self.bytes(b"\n")?;
-        }
-        Ok(())
+fn write_decl(line: &mut Line, decl: &Decl) -> Result<(), Fault> {
+    line.bytes(match decl.dir {
+        Some(Dir::Input) => b"input".as_slice(),
+        Some(Dir::Output) => b"output".as_slice(),
+        None => b"wire".as_slice(),
+    })?;
+    if let Some(range) = decl.range {
+        line.span(range.left, range.right)?;
     }
+    line.word(&decl.name)?;
+    write_place(line, decl.place)
+}
 
-    fn item(&mut self, item: &Item) -> Result<(), Fail> {
-        match item {
-            Item::Net(decl) => {
-                self.bytes(match decl.dir {
-                    Some(Dir::Input) => b"input".as_slice(),
-                    Some(Dir::Output) => b"output".as_slice(),
-                    None => b"wire".as_slice(),
-                })?;
-                self.range(decl.range)?;
-                self.word(&decl.name)?;
-                self.place(decl.place)
-            }
-            Item::Assign(target, value) => {
-                self.bytes(b"assign")?;
-                self.expr(target)?;
-                self.expr(value)
-            }
-            Item::Gate(gate) => self.gate(gate),
-            Item::Inst(inst) => self.instance(inst),
-        }
+fn write_gate(line: &mut Line, gate: &Gate) -> Result<(), Fault> {
+    line.bytes(b"gate")?;
+    if let Some(name) = &gate.name {
+        line.word(name)?;
     }
+    write_place(line, gate.place)?;
+    write_exprs(line, gate.args.as_slice())
+}
 
-    fn range(&mut self, range: Option<Range>) -> Result<(), Fail> {
-        match range {
-            Some(range) => self.span(range.left, range.right),
-            None => Ok(()),
-        }
+fn write_instance(line: &mut Line, inst: &Inst) -> Result<(), Fault> {
+    line.bytes(b"inst")?;
+    line.word(&inst.module)?;
+    line.word(&inst.name)?;
+    write_place(line, inst.place)?;
+    for (name, value) in inst.params.as_slice() {
+        line.bytes(b" #")?;
+        line.bytes(name.bytes())?;
+        line.bytes(b"=")?;
+        write_parameter(line, *value)?;
     }
-
-    fn span(&mut self, left: u32, right: u32) -> Result<(), Fail> {
-        self.bytes(b"[")?;
-        self.number(left)?;
-        self.bytes(b":")?;
-        self.number(right)?;
-        self.bytes(b"]")
-    }
-
-    fn gate(&mut self, gate: &Gate) -> Result<(), Fail> {
-        self.bytes(b"gate")?;
-        if let Some(name) = &gate.name {
-            self.word(name)?;
-        }
-        self.place(gate.place)?;
-        self.exprs(gate.args.as_slice())
-    }
-
-    fn instance(&mut self, inst: &Inst) -> Result<(), Fail> {
-        self.bytes(b"inst")?;
-        self.word(&inst.module)?;
-        self.word(&inst.name)?;
-        self.place(inst.place)?;
-        for (name, value) in inst.params.as_slice() {
-            self.bytes(b" #")?;
-            self.bytes(name.bytes())?;
-            self.value(*value)?;
-        }
-        match &inst.conns {
-            Conns::ByName(pins) => self.pins(pins.as_slice()),
-            Conns::ByPlace(exprs) => {
-                self.bytes(b" by place")?;
-                self.exprs(exprs.as_slice())
-            }
-        }
-    }
-
-    fn value(&mut self, value: Value) -> Result<(), Fail> {
-        match value {
-            Value::Whole(number) => {
-                self.bytes(b"=")?;
-                self.number(number)
-            }
-            Value::Sized(packed) => {
-                let word = packed.word();
-                let text = format!(in self.alloc; "={}'{}", word.width, word.value)?;
-                self.bytes(text.as_bytes())
-            }
-            Value::Text => self.bytes(b"=text"),
+    match &inst.conns {
+        Conns::ByName(pins) => write_pins(line, pins.as_slice()),
+        Conns::ByPlace(exprs) => {
+            line.bytes(b" by place")?;
+            write_exprs(line, exprs.as_slice())
         }
     }
+}
 
-    fn pins(&mut self, pins: &[(Name, Option<Expr>)]) -> Result<(), Fail> {
-        self.bytes(b" by name")?;
-        for (name, expr) in pins {
-            self.bytes(b" .")?;
-            self.bytes(name.bytes())?;
-            if let Some(expr) = expr {
-                self.expr(expr)?;
-            }
-        }
-        Ok(())
+fn write_parameter(line: &mut Line, value: Value) -> Result<(), Fault> {
+    match value {
+        Value::Whole(number) => line.number(u64::from(number)),
+        Value::Sized(packed) => line.constant(packed.width(), packed.word().value),
+        Value::Text => line.bytes(b"text"),
     }
+}
 
-    fn exprs(&mut self, exprs: &[Expr]) -> Result<(), Fail> {
-        for expr in exprs {
-            self.expr(expr)?;
+fn write_pins(line: &mut Line, pins: &[(Name, Option<Expr>)]) -> Result<(), Fault> {
+    line.bytes(b" by name")?;
+    for (name, expr) in pins {
+        line.bytes(b" .")?;
+        line.bytes(name.bytes())?;
+        if let Some(expr) = expr {
+            write_expr(line, expr)?;
         }
-        Ok(())
     }
+    Ok(())
+}
 
-    fn expr(&mut self, expr: &Expr) -> Result<(), Fail> {
-        match expr {
-            Expr::Whole(name, place) => {
-                self.word(name)?;
-                self.place(*place)
+fn write_exprs(line: &mut Line, exprs: &[Expr]) -> Result<(), Fault> {
+    for expr in exprs {
+        write_expr(line, expr)?;
+    }
+    Ok(())
+}
+
+fn write_expr(line: &mut Line, expr: &Expr) -> Result<(), Fault> {
+    match expr {
+        Expr::Whole(name, place) => {
+            line.word(name)?;
+            write_place(line, *place)
+        }
+        Expr::Bit(name, index, place) => {
+            line.word(name)?;
+            line.bytes(b"[")?;
+            line.number(u64::from(*index))?;
+            line.bytes(b"]")?;
+            write_place(line, *place)
+        }
+        Expr::Part(name, left, right, place) => {
+            line.word(name)?;
+            line.span(*left, *right)?;
+            write_place(line, *place)
+        }
+        Expr::Const(packed, place) => {
+            line.bytes(b" ")?;
+            line.constant(packed.width(), packed.word().value)?;
+            write_place(line, *place)
+        }
+        Expr::Concat(parts) => {
+            line.bytes(b" {")?;
+            for part in parts.as_slice() {
+                write_expr(line, part)?;
             }
-            Expr::Bit(name, index, place) => {
-                self.word(name)?;
-                self.bytes(b"[")?;
-                self.number(*index)?;
-                self.bytes(b"]")?;
-                self.place(*place)
-            }
-            Expr::Part(name, left, right, place) => {
-                self.word(name)?;
-                self.span(*left, *right)?;
-                self.place(*place)
-            }
-            Expr::Const(packed, place) => {
-                let word = packed.word();
-                let text = format!(in self.alloc; " {}'{}", word.width, word.value)?;
-                self.bytes(text.as_bytes())?;
-                self.place(*place)
-            }
-            Expr::Concat(parts) => {
-                self.bytes(b" {")?;
-                for part in parts.as_slice() {
-                    self.expr(part)?;
-                }
-                self.bytes(b" }")
-            }
+            line.bytes(b" }")
         }
     }
 }

@@ -14,9 +14,9 @@ cycle_within net nets flat cycle zero n at =
     let last : ℕ = length nets - 1 in
     let end : last + 1 ≡ length nets = omega (arith, long) in
     let there = slice_get-get_or nets last 0 (omega (arith, long)) in
-    fed_within net flat (get_or nets last 0) n (cycle.feeds_first last (get_or nets last 0) n end there at)
+    fed_within net flat (get_or nets last 0) n (cycle.first last (get_or nets last 0) n end there at)
 cycle_within net nets flat cycle (suc i) n at =
     let long = slice_get_within nets (suc i) n at in
     let next : i + 1 ≡ suc i = omega arith in
     let there = slice_get-get_or nets i 0 (omega (arith, long)) in
-    fed_within net flat (get_or nets i 0) n (cycle.feeds_next i (get_or nets i 0) n there (rw next at))
+    fed_within net flat (get_or nets i 0) n (cycle.next i (get_or nets i 0) n there (rw next at))

@@ -65,8 +65,8 @@ module _ (net other : Netlist) (flat : IsFlat net) (also : IsFlat other) (same :
   cycle_on nets cycle = record {
     nonempty = cycle.nonempty;
     distinct = cycle.distinct;
-    feeds_next = λ i m n at next. feeds_on m n (cycle.feeds_next i m n at next);
-    feeds_first = λ i m n last at first. feeds_on m n (cycle.feeds_first i m n last at first);
+    next = λ i m n at next. feeds_on m n (cycle.next i m n at next);
+    first = λ i m n last at first. feeds_on m n (cycle.first i m n last at first);
   }
 
 -- the answer to a text with this fault

@@ -11,3 +11,7 @@ pub mod PartsLemmas
 pub mod DependLemmas
 pub mod RunLemmas
 pub mod InputLemmas
+pub mod LimitLemmas
+pub mod DriverLemmas
+pub mod NameLemmas
+pub mod PlaceLemmas

@@ -3,6 +3,7 @@ use Rattle.std.proofs.Common.{◌≡◌, ℕ, zero, suc, ◌+◌, Bool, true, fa
 use Rattle.std.specs.List.{enumerate_from, filter_map, cons_option, flat_map}
 use Rattle.std.specs.Option.{option_map}
 use Rattle.std.specs.Map.{lookup}
+pub use Rattle.net_graph.proofs.ListLemmas.{slice_get_left}
 
 pub option_map_some : {A B : Type 0} (f : A → B) (o : Option A) (y : B) → option_map f o ≡ Some y → (x : A) × (o ≡ Some x) × (f x ≡ y)
 option_map_some f None y e = absurd (cc e)
@@ -59,11 +60,6 @@ slice_get_append [] ys n y at = inr (n, omega arith, at)
 slice_get_append (x ∷ xs) ys zero y at = inl at
 slice_get_append (x ∷ xs) ys (suc n) y at =
     elim (slice_get_append xs ys n y at) [ inl here ↦ inl here | inr later ↦ inr (later.0, (let e : n ≡ length xs + later.0 = later.1 in omega arith), later.2) ]
-
-pub slice_get_left : {A : Type 0} (xs ys : List A) (n : ℕ) (x : A) → slice_get xs n ≡ Some x → slice_get (xs ++ ys) n ≡ Some x
-slice_get_left [] ys n x at = absurd (cc at)
-slice_get_left (z ∷ zs) ys zero x at = at
-slice_get_left (z ∷ zs) ys (suc n) x at = slice_get_left zs ys n x at
 
 pub slice_get_right : {A : Type 0} (xs ys : List A) (n m : ℕ) (y : A) → n ≡ length xs + m → slice_get ys m ≡ Some y → slice_get (xs ++ ys) n ≡ Some y
 slice_get_right [] ys n m y is at = (let e : n ≡ m = omega arith in ap (slice_get ys) e) ∙ at

@@ -22,9 +22,6 @@ use Rattle.net_core.proofs.DependLemmas.{output_same, next_same, same_pins}
 
 -- What a flat netlist gives
 
-pub IsInput : Netlist → ℕ → Type 0
-IsInput net n = IsIn (input_nets net) n
-
 -- a clock buffer has one input pin
 buffer_pin : (kind : CellKind) (count i : ℕ) → is_clock_buffer kind ≡ true → IsPinCount (input_widths kind) count → i < count → i ≡ 0
 buffer_pin (Gate Buf) count i buffer size low = omega (arith, size, low)
@@ -114,13 +111,13 @@ module _ (net : Netlist) (flat : IsFlat net) (rank : ℕ → ℕ) (ranked : IsRa
       by : IsIn (input_nets net) n ⊎ HasDriver net.cells n → ((m : ℕ) → rank m < rank n → IsData net m → a m ≡ b m) → a n ≡ b n
       by (inl (k, at)) before = map_at a b (input_nets net) row k n one.inputs two.inputs at
       by (inr (c, cell, k, drives)) before =
-          one.outputs c cell k n drives is
+          one.outputs c cell drives.at k n drives.on is
           ∙ output_same cell.kind (input_pins a cell) (input_pins b cell) (stored c) (other c) k (same_size a b cell)
           (λ i counts. pins_agree a b cell i (λ m from.
           let reads : Reads net.cells c cell i m = record { at = drives.at; from = from } in
           before m (ranked m n (record { c = c; cell = cell; k = k; i = i; drives = drives; reads = reads; depends_on = counts; carries_data = is })) (reads_data net flat c cell k n i m drives is reads)))
           (λ i stores. same c cell i drives.at stores)
-          ∙ sym (two.outputs c cell k n drives is)
+          ∙ sym (two.outputs c cell drives.at k n drives.on is)
 
   pub settled_once : (row : List Bool) (a b : ℕ → Bool) (stored other : ℕ → ℕ → Bool) → IsSettled net row a stored → IsSettled net row b other → SameContent net stored other → SameBits net a b
   settled_once row a b stored other one two same n is = settled_below row a b stored other one two same (suc (rank n)) n (omega arith) is
@@ -130,8 +127,8 @@ module _ (net : Netlist) (flat : IsFlat net) where
   pub settled_stored : (row : List Bool) (bit : ℕ → Bool) (stored other : ℕ → ℕ → Bool) → IsSettled net row bit stored → SameContent net stored other → IsSettled net row bit other
   settled_stored row bit stored other is same = record {
     inputs = is.inputs;
-    outputs = λ c cell k n drives own. is.outputs c cell k n drives own
-        ∙ output_same cell.kind (input_pins bit cell) (input_pins bit cell) (stored c) (other c) k refl (λ i counts. refl) (λ i stores. same c cell i drives.at stores);
+    outputs = λ c cell at k n on own. is.outputs c cell at k n on own
+        ∙ output_same cell.kind (input_pins bit cell) (input_pins bit cell) (stored c) (other c) k refl (λ i counts. refl) (λ i stores. same c cell i at stores);
   }
 
   -- all pins of a cell that stores agree where the data nets do
@@ -142,13 +139,13 @@ module _ (net : Netlist) (flat : IsFlat net) where
   -- the next stored bits are determined by the data nets and the stored bits
   pub next_once : (a b : ℕ → Bool) (stored other next after : ℕ → ℕ → Bool) → SameBits net a b → SameContent net stored other → IsNext net a stored next → IsNext net b other after → SameContent net next after
   next_once a b stored other next after bits same one two c cell i at within =
-      one c cell i at within
+      one c cell at i within
       ∙ next_same cell.kind (input_pins a cell) (input_pins b cell) (stored c) (other c) i (storing_pins a b bits c cell at (omega (arith, within))) (same c cell i at within)
-      ∙ sym (two c cell i at within)
+      ∙ sym (two c cell at i within)
 
   pub next_stored : (bit : ℕ → Bool) (stored other next : ℕ → ℕ → Bool) → SameContent net stored other → IsNext net bit stored next → IsNext net bit other next
-  next_stored bit stored other next same one c cell i at within =
-      one c cell i at within ∙ next_same cell.kind (input_pins bit cell) (input_pins bit cell) (stored c) (other c) i refl (same c cell i at within)
+  next_stored bit stored other next same one c cell at i within =
+      one c cell at i within ∙ next_same cell.kind (input_pins bit cell) (input_pins bit cell) (stored c) (other c) i refl (same c cell i at within)
 
 -- One clock more
 
@@ -296,4 +293,4 @@ stands_none net bit content start = record {
     same : (other : History) → IsRun net [] other → (t : ℕ) → t ≤ 0 → SameContent net (other.content t) content
     same other run t low c cell i at within =
         let first : t ≡ 0 = omega (arith, low) in
-        ap (λ (k : ℕ). other.content k c i) first ∙ run.start c cell i at within ∙ sym (start c cell i at within)
+        ap (λ (k : ℕ). other.content k c i) first ∙ run.start c cell at i within ∙ sym (start c cell at i within)

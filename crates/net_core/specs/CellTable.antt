@@ -179,6 +179,11 @@ next_content _ ins content i = content i
 abbrev pub is_storage : CellKind → Bool
 is_storage kind = nat_lt 0 (content_size kind)
 
+-- ILAMEM
+abbrev pub is_memory : CellKind → Bool
+is_memory (Mem aw dw) = true
+is_memory _ = false
+
 -- a gate may have no name
 abbrev pub is_gate : CellKind → Bool
 is_gate (Gate _) = true

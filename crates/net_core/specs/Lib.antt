@@ -5,3 +5,7 @@ pub mod Run
 pub mod Cycle
 pub mod Lookup
 pub mod Tables
+pub mod Drivers
+pub mod Places
+pub mod Primitives
+pub mod PrimitiveLaws

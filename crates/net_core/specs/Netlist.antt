@@ -2,6 +2,7 @@
 -- nets are driven, carry the clock, or carry data.
 use Rattle.std.specs.Prelude.{◌≡◌, ℕ, Bool, true, false, not, List, [], ◌∷◌, map, filter, flat_map, sum_by, length, slice_get, slice_index_or, Some, ◌⊎◌}
 use Rattle.std.specs.Option.{option_map_or}
+pub use Rattle.net_graph.specs.Lists.{IsIn}
 use Rattle.net_core.specs.declared.parts.NetId.{NetId}
 use Rattle.net_core.specs.declared.parts.Pin.TheVariants as pins
 use Rattle.net_core.specs.declared.parts.Cell.{Cell}
@@ -65,10 +66,6 @@ input_bits parts = flat_map (port_nets parts.groups) (filter (λ (port : Port). 
 
 abbrev pub output_bits : Parts → List ℕ
 output_bits parts = flat_map (port_nets parts.groups) (filter (λ (port : Port). port.output) parts.ports)
-
--- n is an element of the list
-abbrev pub IsIn : List ℕ → ℕ → Type 0
-IsIn nets n = (i : ℕ) × (slice_get nets i ≡ Some n)
 
 -- A net bit is driven that is a bit of a top's input or on an output pin (IEEE 1364-2005, 4.2: a net's value is that of its drivers).
 abbrev pub IsDriven : Parts → ℕ → Type 0

@@ -4,8 +4,8 @@ use Rattle.std.specs.Prelude.{◌≡◌, ℕ, ◌+◌, ◌<◌, ◌≤◌, Bool,
 use Rattle.net_core.specs.declared.parts.Pin.{Pin}
 use Rattle.net_core.specs.declared.parts.Pin.TheVariants as pins
 use Rattle.net_core.specs.declared.parts.Cell.{Cell}
-use Rattle.net_core.specs.CellTable.{output, content_size, initial, next_content}
-use Rattle.net_core.specs.Netlist.{Netlist, Drives, IsData, input_nets}
+use Rattle.net_core.specs.CellTable.{output, content_size, initial, next_content, is_memory}
+use Rattle.net_core.specs.Netlist.{Netlist, IsData, input_nets}
 
 -- The bit of each net at each clock, and the stored bits of each cell. What it says of nets without data, of clocks beyond the
 -- rows and of bits that a cell has not means nothing.
@@ -22,21 +22,43 @@ pin_bit bit pins.One = true
 abbrev pub input_pins : (ℕ → Bool) → Cell → List Bool
 input_pins bit cell = map (pin_bit bit) cell.ins
 
--- at one clock: the inputs have the bits of the row, and each data net on an output pin has the bit of the cell table
+-- One cell, from the bits of the nets and its own stored bits
+
+-- at one clock: each net of these that is on an output pin has the bit of the cell table
+abbrev pub Settles : (ℕ → Type 0) → Cell → (ℕ → Bool) → (ℕ → Bool) → Type 0
+Settles IsOfThese cell bit content = (k n : ℕ) → slice_get cell.outs k ≡ Some (Some (record { 0 = n })) → IsOfThese n
+    → bit n ≡ output cell.kind (input_pins bit cell) content k
+
+-- at clock 0: it stores its initial bits
+abbrev pub Starts : Cell → (ℕ → Bool) → Type 0
+Starts cell content = (i : ℕ) → i < content_size cell.kind → content i ≡ initial cell.kind i
+
+-- the same, but a memory stores whatever it may
+abbrev pub StartsButMemory : Cell → (ℕ → Bool) → Type 0
+StartsButMemory cell content = is_memory cell.kind ≡ false → Starts cell content
+
+-- from one clock to the next: its stored bits follow the cell table
+abbrev pub MovesOn : Cell → (ℕ → Bool) → (ℕ → Bool) → (ℕ → Bool) → Type 0
+MovesOn cell bit content next = (i : ℕ) → i < content_size cell.kind → next i ≡ next_content cell.kind (input_pins bit cell) content i
+
+-- P holds of each cell and its number
+abbrev pub EachCell : List Cell → (ℕ → Cell → Type 0) → Type 0
+EachCell cells P = (c : ℕ) (cell : Cell) → slice_get cells c ≡ Some cell → P c cell
+
+-- A netlist
+
+-- at one clock: the inputs have the bits of the row, and the cells settle their data nets
 pub record IsSettled (net : Netlist) (row : List Bool) (bit : ℕ → Bool) (content : ℕ → ℕ → Bool) : Type 0 where
   pub inputs : map bit (input_nets net) ≡ row
-  pub outputs : (c : ℕ) (cell : Cell) (k n : ℕ) → Drives net.cells c cell k n → IsData net n
-      → bit n ≡ output cell.kind (input_pins bit cell) (content c) k
+  pub outputs : EachCell net.cells (λ c cell. Settles (IsData net) cell bit (content c))
 
--- at clock 0 each cell stores its initial bits
+-- at clock 0
 abbrev pub IsStart : Netlist → (ℕ → ℕ → Bool) → Type 0
-IsStart net content = (c : ℕ) (cell : Cell) (i : ℕ) → slice_get net.cells c ≡ Some cell → i < content_size cell.kind
-    → content c i ≡ initial cell.kind i
+IsStart net content = EachCell net.cells (λ c cell. Starts cell (content c))
 
--- from one clock to the next the stored bits follow the cell table
+-- from one clock to the next
 abbrev pub IsNext : Netlist → (ℕ → Bool) → (ℕ → ℕ → Bool) → (ℕ → ℕ → Bool) → Type 0
-IsNext net bit content next = (c : ℕ) (cell : Cell) (i : ℕ) → slice_get net.cells c ≡ Some cell → i < content_size cell.kind
-    → next c i ≡ next_content cell.kind (input_pins bit cell) (content c) i
+IsNext net bit content next = EachCell net.cells (λ c cell. MovesOn cell bit (content c) (next c))
 
 -- a run over a list of rows, one for each clock
 pub record IsRun (net : Netlist) (rows : List (List Bool)) (history : History) : Type 0 where

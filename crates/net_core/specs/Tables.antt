@@ -6,11 +6,12 @@ use Rattle.net_core.specs.declared.parts.Cell.{Cell}
 use Rattle.net_core.specs.declared.parts.Group.{Group}
 use Rattle.net_core.specs.declared.parts.Port.{Port}
 use Rattle.net_core.specs.CellTable.{is_clock_buffer}
+use Rattle.net_core.specs.Drivers.{IsOutOn}
 use Rattle.net_core.specs.Netlist.{Drives, Reads, HasDriver, IsIn, IsBuffered, port_nets}
 
 -- some output pin of these is on net n
 abbrev pub IsOn : List (Option NetId) → ℕ → Type 0
-IsOn outs n = (k : ℕ) × (slice_get outs k ≡ Some (Some (record { 0 = n })))
+IsOn outs n = (k : ℕ) × IsOutOn outs k n
 
 -- n is the number of one of the nets
 abbrev pub IsAmongNets : List NetId → ℕ → Type 0

@@ -2,20 +2,16 @@
 use Rattle.std.specs.Prelude.{◌≡◌, ℕ, ◌+◌, ◌-◌, ◌<◌, ◌≤◌, true, false, is_some, IsSome, List, [], ◌∷◌, ◌++◌, length, map, reverse, take, drop, filter_map, flat_map, sum_by, slice_get, if◌then◌else◌, nat_le, Option, Some, None, IfSome, MatchOption, MatchBool, ⊤, ◌⊎◌, ◌↔◌, decimal, codes}
 use Rattle.std.specs.List.{range_with_len}
 use Rattle.std.specs.Option.{option_map_or}
+use Rattle.ila_base.specs.declared.refusal.LimitKind.{LimitKind}
+use Rattle.ila_base.specs.declared.refusal.LimitKind.TheVariants.{Cells, Pins, Nets, AllNames}
+pub use Rattle.net_graph.specs.Lists.{AllDiffer, Each}
+use Rattle.ila_base.specs.declared.limits.TheConstants.{CELLS, PINS, NETS, ALL_NAME_BYTES, GREATEST_INDEX}
 use Rattle.net_core.specs.declared.parts.NetId.{NetId}
 use Rattle.net_core.specs.declared.parts.Cell.{Cell}
 use Rattle.net_core.specs.declared.parts.Group.{Group}
 use Rattle.net_core.specs.declared.parts.Port.{Port}
 use Rattle.net_core.specs.CellTable.{IsPinCount, input_widths, output_widths, IsAllowed, is_storage, is_gate, is_clock_buffer}
 use Rattle.net_core.specs.Netlist.{Parts, Netlist, parts_of, Drives, Reads, HasDriver, IsIn, IsDriven, IsClock, IsClockPort, input_bits, output_bits, all_nets, net_count, is_clock, is_driven}
-
--- the elements are all different
-abbrev pub AllDiffer : {X : Type 0} → List X → Type 0
-AllDiffer {X} xs = (i j : ℕ) (x : X) → slice_get xs i ≡ Some x → slice_get xs j ≡ Some x → i ≡ j
-
--- P holds of each element
-abbrev pub Each : {X : Type 0} → (X → Type 0) → List X → Type 0
-Each {X} P xs = (i : ℕ) (x : X) → slice_get xs i ≡ Some x → P x
 
 -- Names
 
@@ -50,7 +46,7 @@ IsIdentifier name = (0 < length name) × Each (λ byte. (33 ≤ byte) × (byte �
 -- a group has as many bits as its range, and its indices are within the limit
 pub record HasRange (group : Group) : Type 0 where
   pub width : length group.bits ≡ length (bit_names group)
-  pub indices : IfSome group.range (λ range. (range.0 ≤ 1048575) × (range.1 ≤ 1048575))
+  pub indices : IfSome group.range (λ range. (range.0 ≤ GREATEST_INDEX) × (range.1 ≤ GREATEST_INDEX))
 
 -- the bits of one output are all connected or all open
 abbrev pub IsWhole : List (Option NetId) → Type 0
@@ -70,16 +66,40 @@ pub record HasRow (cell : Cell) : Type 0 where
   pub named : is_gate cell.kind ≡ false → IsSome cell.name
   pub clocked : is_some cell.clock ≡ is_storage cell.kind
 
+-- The table of limits
+
 -- one for each input pin, each output pin, open ones too, and a clock pin
 abbrev pub pin_count : Cell → ℕ
 pin_count cell = length cell.ins + length cell.outs + option_map_or (λ _. 1) cell.clock 0
 
--- at most 1,048,576 cells and net bits, 16,777,216 pins, and 67,108,864 bytes of identifiers
+-- the bytes of a name
+abbrev pub group_bytes : Group → ℕ
+group_bytes group = length group.name
+
+abbrev pub cell_bytes : Cell → ℕ
+cell_bytes cell = option_map_or length cell.name 0
+
+-- how many the parts have of a kind: cells, their pins, net bits, or bytes of all flat identifiers
+abbrev pub amount : LimitKind → Parts → ℕ
+amount Cells parts = length parts.cells
+amount Pins parts = sum_by pin_count parts.cells
+amount Nets parts = net_count parts.groups
+amount AllNames parts = sum_by length (identifiers parts)
+amount _ parts = 0
+
+-- and how many they may have
+abbrev pub greatest : LimitKind → ℕ
+greatest Cells = CELLS
+greatest Pins = PINS
+greatest Nets = NETS
+greatest AllNames = ALL_NAME_BYTES
+greatest _ = 0
+
 pub record IsWithinLimits (parts : Parts) : Type 0 where
-  pub cells : length parts.cells ≤ 1048576
-  pub nets : net_count parts.groups ≤ 1048576
-  pub pins : sum_by pin_count parts.cells ≤ 16777216
-  pub names : sum_by length (identifiers parts) ≤ 67108864
+  pub cells : amount Cells parts ≤ greatest Cells
+  pub nets : amount Nets parts ≤ greatest Nets
+  pub pins : amount Pins parts ≤ greatest Pins
+  pub names : amount AllNames parts ≤ greatest AllNames
 
 -- Sources, reads and the clock
 

@@ -1,14 +1,17 @@
 ghost use Rattle.std.specs.Prelude.{◌≡◌, ◌↔◌, IsTrue, IfOk, IfSome, IfNone, IsSome, Some, slice_get};
 ghost use Rattle.net_core.specs.Netlist.{parts_of, is_clock, is_driven, IsClock, IsDriven, IsIn};
 ghost use Rattle.net_core.specs.WellFormed.{IsFlat, IsWellFormed, indexed_name, range_indices};
+ghost use Rattle.net_core.specs.WellFormed.{amount};
+ghost use Rattle.ila_base.specs.declared.refusal.LimitKind.TheVariants as limits;
 ghost use Rattle.net_core.specs.Lookup.{IsGroupNamed, IsCellNamed, IsNetNamed};
 
-use crate::bit_name::split_bit_name;
+use crate::bit_split::split_bit_name;
+use crate::limits::{count_name_bytes, count_nets, count_pins};
 use crate::lists::item_at;
 use crate::names::NameTable;
 use crate::numbers::{number_cells, number_groups};
 use crate::parts::{Cell, CellId, Group, NetId, Port};
-use crate::tables::{clock_table, count_nets, driven_table};
+use crate::tables::{clock_table, driven_table};
 use ila_base::NoMemory;
 use std::alloc::Global;
 use std::marker::Model;
@@ -106,6 +109,35 @@ impl Flat {
         ensures kept { IsFlat self.now }
     {
         self.clock
+    }
+
+    /// How many cells there are.
+    pub fn cell_count(&self) -> usize
+        ensures { result ≡ amount limits.Cells (parts_of self.now) }
+    {
+        self.cells.len()
+    }
+
+    /// How many pins the cells have: input pins, output pins, open ones too, and clock pins. It takes
+    /// time linear in the cells.
+    pub fn pin_count(&self) -> usize
+        ensures { result ≡ amount limits.Pins (parts_of self.now) }
+    {
+        count_pins(self.cells.as_slice())
+    }
+
+    /// How many net bits there are. It takes time linear in the groups.
+    pub fn net_count(&self) -> usize
+        ensures { result ≡ amount limits.Nets (parts_of self.now) }
+    {
+        count_nets(self.groups.as_slice())
+    }
+
+    /// How many bytes all flat identifiers have. It takes time linear in the groups and cells.
+    pub fn name_bytes(&self) -> usize
+        ensures { result ≡ amount limits.AllNames (parts_of self.now) }
+    {
+        count_name_bytes(self.groups.as_slice(), self.cells.as_slice())
     }
 
     /// Whether the net bit is in the clock set: the clock port's bit and what IBUF, BUFG and buf

@@ -1,5 +1,7 @@
 //! The kinds of cells: the gates of IEEE 1364-2005, section 7, the Xilinx primitives of the 7 series
 //! (UG953), and the sample memory of a core.
+ghost use Rattle.std.specs.Prelude.{◌≡◌};
+ghost use Rattle.net_core.specs.CellTable as table;
 
 /// A gate of IEEE 1364-2005: 7.2 has `and` to `xnor`, 7.3 has `buf` and `not`.
 #[derive(Clone, Copy, Debug, PartialEq, Eq)]
@@ -55,4 +57,28 @@ pub enum CellKind {
     Fdpe(bool),
     /// The sample memory ILAMEM: `2^aw` rows of `dw` bits, written and never read by the netlist.
     Mem { aw: u8, dw: u16 },
+}
+
+impl CellKind {
+    /// Whether the kind leads the clock on, as IBUF, BUFG and the gate buf do.
+    pub fn is_clock_buffer(self) -> bool
+        ensures { result ≡ table.is_clock_buffer self }
+    {
+        matches!(
+            self,
+            CellKind::Ibuf | CellKind::Bufg | CellKind::Gate(GateCode::Buf)
+        )
+    }
+
+    /// How many bits a cell of the kind stores.
+    pub fn content_size(self) -> usize
+        requires { table.IsAllowed self }
+        ensures { result ≡ table.content_size self }
+    {
+        match self {
+            CellKind::Fdre(_) | CellKind::Fdse(_) | CellKind::Fdce(_) | CellKind::Fdpe(_) => 1,
+            CellKind::Mem { aw, dw } => (1usize << aw) * dw as usize,
+            _ => 0,
+        }
+    }
 }

@@ -1,24 +1,15 @@
 //! The tables of a netlist: which net bits are driven, and which carry the clock.
 ghost use Rattle.std.specs.Prelude.{◌≡◌, ℕ, ◌<◌, ◌^◌, ◌≤◌, ◌↔◌, ◌==◌, true, false, List, IfOk, IfSome, IfNone, length, map, slice_get, slice_index, slice_index_or, Some, All};
 ghost use Rattle.std.specs.List.{range_with_len};
-ghost use Rattle.net_core.specs.CellTable as kinds;
 ghost use Rattle.net_core.specs.Netlist.{net_count, HasDriver, Drives, Reads, IsIn, IsBuffered, input_bits, IsDriven, Parts};
 ghost use Rattle.net_core.specs.Tables.{IsOn, IsAmongNets, IsInputOf, IsBufferInput, IsBufferFrom, AddsMarks, Writes, AreSources, AreBack, IsClockTable, IsDrivenTable};
 ghost use Rattle.net_core.specs.declared.parts.Cell.{Cell as CellOf};
 
-use crate::kind::{CellKind, GateCode};
 use crate::lists::item_at;
 use crate::parts::{Cell, Group, NetId, Pin, Port};
 use ila_base::NoMemory;
+use ila_base::limits::NETS;
 use std::alloc::Global;
-
-/// How many net bits the groups have.
-pub fn count_nets(groups: &[Group]) -> usize
-    requires { net_count groups.now < 2 ^ 32 }
-    ensures { result ≡ net_count groups.now }
-{
-    groups.iter().map(|group| group.bits.len()).sum()
-}
 
 // Marks the nets.
 fn mark_nets(marks: &mut Vec<bool>, nets: &[NetId])
@@ -77,22 +68,12 @@ fn mark_outputs(marks: &mut Vec<bool>, cells: &[Cell])
     }
 }
 
-// Whether the kind leads the clock on.
-fn is_clock_buffer(kind: CellKind) -> bool
-    ensures { result ≡ kinds.is_clock_buffer kind }
-{
-    matches!(
-        kind,
-        CellKind::Ibuf | CellKind::Bufg | CellKind::Gate(GateCode::Buf)
-    )
-}
-
 // The net that a clock buffer reads.
 fn buffer_input(cell: &Cell) -> Option<NetId>
     ensures found { IfSome result (λ net. IsBufferInput cell.now net.0) }
     ensures missing { IfNone result ((m : ℕ) → ¬ IsBufferInput cell.now m) }
 {
-    if !is_clock_buffer(cell.kind) {
+    if !cell.kind.is_clock_buffer() {
         return None;
     }
     match cell.ins.get(0) {
@@ -184,7 +165,7 @@ pub fn clock_table(
     cells: &[Cell],
     clock: NetId,
 ) -> Result<Vec<bool>, NoMemory>
-    requires few { count ≤ 2 ^ 20 }
+    requires few { count ≤ NETS }
     requires driven { (n : ℕ) → HasDriver cells.now n → n < count }
     requires read { (c i m : ℕ) (cell : _) → Reads cells.now c cell i m → m < count }
     requires one_driver { (c d k l n : ℕ) (a b : _) → Drives cells.now c a k n → Drives cells.now d b l n → c ≡ d }

@@ -7,7 +7,7 @@ use Rattle.net_graph.specs.declared.components.Stage.{Stage}
 use Rattle.net_graph.specs.declared.components.Stage.TheVariants.{New, Open, Done}
 use Rattle.net_graph.specs.declared.components.Branch.{Branch}
 use Rattle.net_graph.specs.Graph.{Leads}
-use Rattle.net_graph.specs.Reach.{IsIn}
+use Rattle.net_graph.specs.Lists.{IsIn}
 use Rattle.net_graph.specs.Recurrent.{LeadsFar, LeadsTo, one, more, IsRecurrent, IsLeastRecurrent}
 use Rattle.net_graph.specs.Components.{NotBefore, IsNoted, IsSettled, IsPast, IsSplit, AreDone, AreNoted}
 use Rattle.net_graph.proofs.FarLemmas.{far_after, to_other, in_take, take_in, in_drop, drop_in}

@@ -8,7 +8,8 @@ use Rattle.std.proofs.lemmas.Option.{slice_get_within, get_or_from_slice_get, sl
 use Rattle.net_graph.specs.declared.search.Visit.{Visit}
 use Rattle.net_graph.specs.declared.search.Step.{Step}
 use Rattle.net_graph.specs.Rows.{RowHas}
-use Rattle.net_graph.specs.Graph.{IsCycle, AllDiffer, BeginsLeast}
+use Rattle.net_graph.specs.Graph.{IsCycle}
+use Rattle.net_graph.specs.Lists.{AllDiffer, BeginsLeast}
 use Rattle.net_graph.specs.Search.{IsSearch, ClosesAt, IsLoopAt, nodes_from}
 
 -- the element at a place, from the element at another place of another list

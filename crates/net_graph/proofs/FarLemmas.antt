@@ -2,7 +2,7 @@
 use Rattle.std.proofs.Common.{◌≡◌, ◌≢◌, ℕ, zero, suc, ◌+◌, ◌<◌, List, [], ◌∷◌, take, drop, slice_get, Some, ap, sym, ◌∙◌, subst, arith, ◌⊎◌, inl, inr}
 use Rattle.std.proofs.lemmas.Bool.{cases_eq}
 use Rattle.net_graph.specs.declared.graph.Graph.{Graph}
-use Rattle.net_graph.specs.Reach.{IsIn}
+use Rattle.net_graph.specs.Lists.{IsIn}
 use Rattle.net_graph.specs.Recurrent.{LeadsFar, LeadsTo, one, more}
 
 pub far_after : (graph : Graph) (m k n : ℕ) → LeadsFar graph m k → LeadsFar graph k n → LeadsFar graph m n

@@ -10,7 +10,7 @@ use Rattle.net_graph.specs.declared.components.Stage.{Stage}
 use Rattle.net_graph.specs.declared.components.Stage.TheVariants.{New, Open, Done}
 use Rattle.net_graph.specs.declared.components.Branch.{Branch}
 use Rattle.net_graph.specs.Rows.{AreRows}
-use Rattle.net_graph.specs.Reach.{IsIn}
+use Rattle.net_graph.specs.Lists.{IsIn}
 use Rattle.net_graph.specs.Recurrent.{LeadsTo}
 use Rattle.net_graph.specs.Components.{NotBefore, IsSettled, IsPast, IsSplit, KeepsSeen, KeepsPath, work, new_one}
 use Rattle.net_graph.proofs.ListLemmas.{slice_get_set_same, slice_get_set_other, slice_get_left, slice_get_last, slice_get_pushed}

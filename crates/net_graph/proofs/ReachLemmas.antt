@@ -8,7 +8,8 @@ use Rattle.std.proofs.lemmas.Bool.{cases_eq, cases_lt}
 use Rattle.std.proofs.lemmas.Option.{slice_get_within, slice_get-get_or, get_or_from_slice_get, same_Some}
 use Rattle.net_graph.specs.declared.graph.Graph.{Graph}
 use Rattle.net_graph.specs.Graph.{Leads, node_count}
-use Rattle.net_graph.specs.Reach.{Reaches, itself, along, IsIn, MarksOne, Marks, is_marked, unmarked_one}
+use Rattle.net_graph.specs.Reach.{Reaches, itself, along, MarksOne, Marks, unmarked_one}
+use Rattle.net_graph.specs.Lists.{IsIn, is_marked}
 use Rattle.net_graph.proofs.ListLemmas.{slice_get_left, slice_get_last, slice_get_pushed}
 
 pub marked_low : (marks : List Bool) (n : ℕ) → is_marked marks n ≡ true → n < length marks

@@ -7,7 +7,7 @@ use Rattle.std.proofs.lemmas.List.Sums.{sum_by-set}
 use Rattle.std.proofs.lemmas.Option.{slice_get_within, slice_get-get_or, get_or_from_slice_get, same_Some}
 use Rattle.net_graph.specs.declared.components.Stage.{Stage}
 use Rattle.net_graph.specs.declared.components.Stage.TheVariants.{Done}
-use Rattle.net_graph.specs.Reach.{IsIn}
+use Rattle.net_graph.specs.Lists.{IsIn}
 use Rattle.net_graph.specs.Components.{AreNoted, AreDone, AreCut, new_one}
 use Rattle.net_graph.proofs.ListLemmas.{slice_get_set_same, slice_get_set_other}
 use Rattle.net_graph.proofs.FarLemmas.{in_take, take_in, in_one, take_more_in, take_fewer_in, take_last_in}

@@ -11,7 +11,7 @@ use Rattle.net_graph.specs.declared.components.Branch.{Branch}
 use Rattle.net_graph.specs.Rows.{AreRows}
 use Rattle.net_graph.specs.Graph.{Leads}
 use Rattle.net_graph.specs.Recurrent.{one}
-use Rattle.net_graph.specs.Reach.{IsIn}
+use Rattle.net_graph.specs.Lists.{IsIn}
 use Rattle.net_graph.specs.Components.{IsSettled, IsSplit, IsOver, AreCut, AreDone, AreNoted, IsNoted, KeepsSeen, work, new_one}
 use Rattle.net_graph.proofs.ComponentLemmas.{bounds_below, moved_on, split_noted, split_cut, settled_cut}
 use Rattle.net_graph.proofs.CloseLemmas.{split_left, split_closed}

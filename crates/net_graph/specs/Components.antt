@@ -6,7 +6,7 @@ use Rattle.net_graph.specs.declared.components.Stage.{Stage}
 use Rattle.net_graph.specs.declared.components.Stage.TheVariants.{New, Open, Done}
 use Rattle.net_graph.specs.declared.components.Branch.{Branch}
 use Rattle.net_graph.specs.Graph.{Leads}
-use Rattle.net_graph.specs.Reach.{IsIn}
+use Rattle.net_graph.specs.Lists.{IsIn}
 use Rattle.net_graph.specs.Recurrent.{LeadsFar, LeadsTo, IsRecurrent}
 
 -- each group that has begun at the first place has begun at the second, which is in the same group or a later one

@@ -1,20 +1,13 @@
 -- Which nodes lead to given ones, along no edge or more.
-use Rattle.std.specs.Prelude.{◌≡◌, ℕ, ◌+◌, ◌<◌, Bool, true, false, List, [], ◌∷◌, ◌++◌, length, slice_get, slice_set, slice_index_or, sum_by, Some, ◌⊎◌}
+use Rattle.std.specs.Prelude.{◌≡◌, ℕ, ◌+◌, ◌<◌, Bool, true, false, List, [], ◌∷◌, ◌++◌, length, slice_get, slice_set, sum_by, Some, ◌⊎◌}
 use Rattle.net_graph.specs.declared.graph.Graph.{Graph}
 use Rattle.net_graph.specs.Graph.{Leads}
+use Rattle.net_graph.specs.Lists.{IsIn, is_marked}
 
 -- the least set that has the ends, and with the end of an edge its start
 pub data Reaches (graph : Graph) (ends : List ℕ) : ℕ → Type 0 where
   itself : (i n : ℕ) → slice_get ends i ≡ Some n → Reaches graph ends n
   along : (m n : ℕ) → Leads graph m n → Reaches graph ends n → Reaches graph ends m
-
--- the mark of a node
-abbrev pub is_marked : List Bool → ℕ → Bool
-is_marked marks n = slice_index_or marks n false
-
--- n is an element of the list
-abbrev pub IsIn : List ℕ → ℕ → Type 0
-IsIn nodes n = (i : ℕ) × (slice_get nodes i ≡ Some n)
 
 abbrev pub unmarked_one : Bool → ℕ
 unmarked_one true = 0

@@ -1,5 +1,5 @@
 ghost use Rattle.std.specs.Prelude.{◌≡◌, ℕ, ◌+◌, ◌<◌, ◌≤◌, List, [], ◌∷◌, ◌++◌, drop, length, slice_get, Some, IfOk, OnOk, take};
-ghost use Rattle.net_graph.specs.Reach.{IsIn};
+ghost use Rattle.net_graph.specs.Lists.{IsIn};
 ghost use Rattle.net_graph.specs.Graph.{Leads};
 ghost use Rattle.net_graph.specs.Recurrent.{LeadsTo};
 ghost use Rattle.net_graph.specs.Components.{IsSplit, IsSettled, KeepsSeen, AreCut, AreDone, AreNoted, KeepsPath, IsOver, work};

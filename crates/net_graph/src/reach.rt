@@ -1,6 +1,7 @@
 ghost use Rattle.std.specs.Prelude.{◌≡◌, ℕ, ◌<◌, ◌↔◌, true, length, slice_get, Some, IfOk, OnOk};
 ghost use Rattle.net_graph.specs.Graph.{Leads, node_count};
-ghost use Rattle.net_graph.specs.Reach.{Reaches, IsIn, MarksOne, Marks, is_marked};
+ghost use Rattle.net_graph.specs.Reach.{Reaches, MarksOne, Marks};
+ghost use Rattle.net_graph.specs.Lists.{IsIn, is_marked};
 
 use crate::graph::Graph;
 use ila_base::NoMemory;

@@ -30,8 +30,8 @@ module _ (net : Netlist) (leads : ℕ → ℕ → Type 0) (edges : (m n : ℕ) �
   cycle_net nodes cycle = record {
     nonempty = cycle.nonempty;
     distinct = cycle.distinct;
-    feeds_next = λ i m n here there. (edges m n).0 (cycle.next i m n here there);
-    feeds_first = λ i m n last here there. (edges m n).0 (cycle.first i m n last here there);
+    next = λ i m n here there. (edges m n).0 (cycle.next i m n here there);
+    first = λ i m n last here there. (edges m n).0 (cycle.first i m n last here there);
   }
 
   pub fault_from : (nets : List NetId) (nodes : List ℕ) → numbers nets ≡ nodes → graph.IsCycle leads nodes × graph.BeginsLeast nodes

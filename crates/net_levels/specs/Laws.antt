@@ -5,6 +5,4 @@ use Rattle.net_core.specs.Cycle.{IsRanked, HasCycle, Feeds}
 use Rattle.net_graph.specs.Laws as graph
 
 pub ranked_has_no_cycle : (net : Netlist) (rank : ℕ → ℕ) → IsRanked net rank → HasCycle net → ⊥
-ranked_has_no_cycle net rank ranked cycle =
-    graph.ranked_has_no_cycle (Feeds net) rank ranked cycle.0
-    (record { nonempty = cycle.1.nonempty; distinct = cycle.1.distinct; next = cycle.1.feeds_next; first = cycle.1.feeds_first })
+ranked_has_no_cycle net rank ranked cycle = graph.ranked_has_no_cycle (Feeds net) rank ranked cycle.0 cycle.1

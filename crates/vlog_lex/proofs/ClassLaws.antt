@@ -5,7 +5,8 @@ use Rattle.std.specs.Prelude.{codes}
 use Rattle.std.specs.List.{list_any}
 use Rattle.std.proofs.lemmas.Bool.Decides.{nat_tests}
 use Rattle.vlog_lex.specs.declared.bytes.Class.TheVariants.{Blank, Letter, Digit, Mark, Operator}
-use Rattle.vlog_lex.specs.Bytes.{is_blank, is_letter, is_digit, is_mark, is_operator, class_of}
+use Rattle.ila_base.specs.Bytes.{is_blank, is_letter, is_digit}
+use Rattle.vlog_lex.specs.Bytes.{is_mark, is_operator, class_of}
 use Rattle.vlog_lex.proofs.RunLaws.{outcome}
 
 printed_not_blank : (b : ℕ) → 33 ≤ b → is_blank b ≡ false

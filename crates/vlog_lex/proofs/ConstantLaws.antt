@@ -9,8 +9,9 @@ use Rattle.vlog_lex.specs.declared.constant.Suffix.{Suffix}
 use Rattle.vlog_lex.specs.declared.token.TokenKind.TheVariants.{Number, Sized}
 use Rattle.vlog_lex.specs.declared.token.Flaw.TheVariants.{XZ, Constant}
 use Rattle.vlog_lex.specs.declared.token.Piece.TheVariants.{Token, Refused}
-use Rattle.vlog_lex.specs.Bytes.{is_blank, is_digit, is_number_byte}
-use Rattle.vlog_lex.specs.Numbers.{base_of, is_place, is_underscore, value}
+use Rattle.ila_base.specs.Bytes.{is_blank, is_digit, is_underscore, value}
+use Rattle.vlog_lex.specs.Bytes.{is_number_byte}
+use Rattle.vlog_lex.specs.Numbers.{base_of, is_place}
 use Rattle.vlog_lex.specs.Runs.{IsRun}
 use Rattle.vlog_lex.specs.Pieces.{begins_as, Parts, base_text, IsConstant, width_of, amount_of, has_unknown, word_of, IsNumber}
 use Rattle.vlog_lex.specs.Refusals.{large_number, large_width, large_amount}

@@ -1,10 +1,10 @@
 -- A text is cut in one way.
-use Rattle.std.proofs.Common.{◌≡◌, ℕ, List, [], ◌∷◌, ◌++◌, refl, sym, ◌∙◌, ap, subst, arith, length, take, drop}
+use Rattle.std.proofs.Common.{◌≡◌, ℕ, List, [], ◌∷◌, ◌++◌, sym, ◌∙◌, ap, subst, arith, length}
 use Rattle.std.specs.Prelude.{Option, Some, None}
-use Rattle.std.proofs.lemmas.List.{take_at, drop_at}
 use Rattle.vlog_lex.specs.declared.token.Token.{Token}
 use Rattle.vlog_lex.specs.declared.token.TokenKind.{TokenKind}
-use Rattle.vlog_lex.specs.declared.token.NetFault.{NetFault}
+use Rattle.ila_base.proofs.TextLaws.{same_front}
+use Rattle.ila_base.specs.declared.fault.NetFault.{NetFault}
 use Rattle.vlog_lex.specs.declared.token.Flaw.{Flaw}
 use Rattle.vlog_lex.specs.declared.token.Flaw.TheVariants.{BadByte, XZ, NameLength, Constant}
 use Rattle.vlog_lex.specs.declared.token.Piece.TheVariants.{Skip, Token as Taken, Refused}
@@ -28,13 +28,6 @@ skip_piece text bytes rest same s = ap piece_at same ∙ skips_again s
 
 take_piece : (kind : TokenKind) (text bytes rest : List ℕ) → text ≡ bytes ++ rest → IsAllowed kind bytes rest → piece_at text ≡ Taken kind (length bytes)
 take_piece kind text bytes rest same t = ap piece_at same ∙ token_again kind bytes rest t
-
--- two fronts of one length are the same
-pub same_front : (text a x b y : List ℕ) → text ≡ a ++ x → text ≡ b ++ y → length a ≡ length b → (a ≡ b) × (x ≡ y)
-same_front text a x b y first second long = (
-  sym (take_at a x (length a) refl) ∙ ap (take (length a)) (sym first ∙ second) ∙ take_at b y (length a) (sym long),
-  sym (drop_at a x (length a) refl) ∙ ap (drop (length a)) (sym first ∙ second) ∙ drop_at b y (length a) (sym long),
-)
 
 -- how a cut goes on, by the piece that the text begins with
 end_next : {before text : List ℕ} {us : List Token} {g : Option NetFault} → text ≡ [] → Cuts before text us g → (us ≡ []) × (g ≡ None)

@@ -1,20 +1,12 @@
 -- What a text begins with, told by a piece.
-use Rattle.std.proofs.Common.{◌≡◌, ℕ, ◌<◌, List, ◌++◌, length}
+use Rattle.std.proofs.Common.{ℕ, List}
+use Rattle.ila_base.proofs.TextLaws.{Begins}
 use Rattle.vlog_lex.specs.declared.token.Flaw.{Flaw}
 use Rattle.vlog_lex.specs.declared.token.Flaw.TheVariants.{BadByte, XZ, NameLength, Constant}
 use Rattle.vlog_lex.specs.declared.token.Piece.{Piece}
 use Rattle.vlog_lex.specs.declared.token.Piece.TheVariants.{Skip, Token, Refused}
 use Rattle.vlog_lex.specs.Skipped.{Skips}
 use Rattle.vlog_lex.specs.Refusals.{IsAllowed, IsUnknown, IsLongName, IsLargeConstant}
-
--- the text begins with n bytes, at least one, that stand in the relation to the rest
-pub record Begins (R : List ℕ → List ℕ → Type 0) (n : ℕ) (text : List ℕ) : Type 0 where
-  pub bytes : List ℕ
-  pub rest : List ℕ
-  pub whole : text ≡ bytes ++ rest
-  pub count : n ≡ length bytes
-  pub some : 0 < n
-  pub holds : R bytes rest
 
 -- the flaw is there, where it is more than that nothing begins
 abbrev pub Flawed : Flaw → List ℕ → Type 0

@@ -9,14 +9,14 @@ use Rattle.vlog_lex.specs.declared.constant.Suffix.{Suffix}
 use Rattle.vlog_lex.specs.declared.token.Token.{Token}
 use Rattle.vlog_lex.specs.declared.token.TokenKind.{TokenKind}
 use Rattle.vlog_lex.specs.declared.token.TokenKind.TheVariants.{Ident, Escaped, Number, Sized, Text, Mark, Outside}
-use Rattle.vlog_lex.specs.declared.token.NetFault.{NetFault}
+use Rattle.ila_base.specs.declared.fault.NetFault.{NetFault}
 use Rattle.vlog_lex.specs.declared.token.Flaw.{Flaw}
 use Rattle.vlog_lex.specs.declared.token.Flaw.TheVariants.{BadByte, XZ, NameLength, Constant}
 use Rattle.vlog_lex.specs.declared.token.Piece.{Piece}
 use Rattle.vlog_lex.specs.declared.token.Piece.TheVariants.{Skip, Token as Taken, Refused}
-use Rattle.vlog_lex.specs.Bytes.{is_digit, is_name_byte, is_number_byte, is_printable, is_mark, class_of}
+use Rattle.ila_base.specs.Bytes.{is_digit, value}
+use Rattle.vlog_lex.specs.Bytes.{is_name_byte, is_number_byte, is_printable, is_mark, class_of}
 use Rattle.vlog_lex.specs.Construct.{is_construct}
-use Rattle.vlog_lex.specs.Numbers.{value}
 use Rattle.vlog_lex.specs.Runs.{IsRun}
 use Rattle.vlog_lex.specs.Skipped.{Skips, blank, line_comment, block_comment, attribute, timescale, glbl}
 use Rattle.vlog_lex.specs.Pieces.{begins_as, IsName, IsEscapedName, Parts, IsConstant, width_of, word_of, IsNumber, opens_attribute, IsOutside, operator, slash, keyword, directive, IsToken}
@@ -28,7 +28,8 @@ use Rattle.vlog_lex.proofs.ClassLaws.{blank_class, letter_class, digit_class, ma
 use Rattle.vlog_lex.proofs.SkipLaws.{skips_again}
 use Rattle.vlog_lex.proofs.ConstantLaws.{behind_number, suffix_value, suffix_is, digits_range, constant_whole, constant_count, Either, number_either}
 use Rattle.vlog_lex.proofs.PieceLaws.{token_again, refuses_again, allowed_token, IsSize, token_something}
-use Rattle.vlog_lex.proofs.CuttingLaws.{same_front, nothing_refused}
+use Rattle.ila_base.proofs.TextLaws.{same_front}
+use Rattle.vlog_lex.proofs.CuttingLaws.{nothing_refused}
 
 -- what a text begins with, as the reader tells it, but for the sizes of tokens
 abbrev number_lexeme : ℕ → ℕ → List ℕ → Option Suffix → Piece

@@ -12,4 +12,3 @@ pub mod SettleLaws
 pub mod SkipLaws
 pub mod StepLaws
 pub mod TokenLaws
-pub mod Values

@@ -7,7 +7,8 @@ use Rattle.vlog_lex.specs.declared.token.TokenKind.TheVariants.{Ident, Escaped, 
 use Rattle.vlog_lex.specs.declared.token.Flaw.TheVariants.{NameLength}
 use Rattle.vlog_lex.specs.declared.token.Piece.{Piece}
 use Rattle.vlog_lex.specs.declared.token.Piece.TheVariants.{Token, Refused}
-use Rattle.vlog_lex.specs.Bytes.{is_letter, is_name_byte, is_printable}
+use Rattle.ila_base.specs.Bytes.{is_letter}
+use Rattle.vlog_lex.specs.Bytes.{is_name_byte, is_printable}
 use Rattle.vlog_lex.specs.Construct.{is_construct}
 use Rattle.vlog_lex.specs.Runs.{IsRun}
 use Rattle.vlog_lex.specs.Pieces.{IsName, IsIdentifier, ends_escaped, IsEscapedName, keyword}

@@ -11,9 +11,9 @@ use Rattle.vlog_lex.specs.declared.token.Flaw.{Flaw}
 use Rattle.vlog_lex.specs.declared.token.Flaw.TheVariants.{BadByte, XZ, NameLength, Constant}
 use Rattle.vlog_lex.specs.declared.token.Piece.{Piece}
 use Rattle.vlog_lex.specs.declared.token.Piece.TheVariants.{Skip, Token, Refused}
-use Rattle.vlog_lex.specs.Bytes.{is_blank, is_letter, is_digit, is_mark, is_operator, class_of}
+use Rattle.ila_base.specs.Bytes.{is_blank, is_letter, is_digit, value}
+use Rattle.vlog_lex.specs.Bytes.{is_mark, is_operator, class_of}
 use Rattle.vlog_lex.specs.Closed.{closed_length}
-use Rattle.vlog_lex.specs.Numbers.{value}
 use Rattle.vlog_lex.specs.Skipped.{Skips, IsQuoted}
 use Rattle.vlog_lex.specs.Pieces.{IsIdentifier, IsEscapedName, Parts, IsConstant, width_of, amount_of, has_unknown, word_of, IsNumber, opens_attribute, opens_comment, IsOutside, operator, slash, keyword, directive, IsToken}
 use Rattle.vlog_lex.specs.Refusals.{IsAllowed, IsUnknown, IsLongName, long_name, long_escaped, IsLargeConstant, large_number, large_width, large_amount, BeginsNothing, Refuses}
@@ -24,7 +24,8 @@ use Rattle.vlog_lex.proofs.ClosedLaws.{quoted_again, closed_found}
 use Rattle.vlog_lex.proofs.NameLaws.{identifier_again, long_again, keyword_again, word_found, escaped_again, long_escaped_again, escaped_found}
 use Rattle.vlog_lex.proofs.SkipLaws.{skips_again, blank_found, line_comment_found, block_comment_found, attribute_found, directive_again, backquote_found}
 use Rattle.vlog_lex.proofs.ConstantLaws.{unknown_again, wide_again, amount_again, sized_again, number_again, large_again, digit_found}
-use Rattle.vlog_lex.proofs.Found.{Begins, Flawed, Found}
+use Rattle.ila_base.proofs.TextLaws.{Begins}
+use Rattle.vlog_lex.proofs.Found.{Flawed, Found}
 
 -- a `/` that opens no comment
 slash_again : (rest : List ℕ) → opens_comment rest ≡ false → slash_behind rest ≡ Token Outside 1

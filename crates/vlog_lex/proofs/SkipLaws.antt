@@ -8,10 +8,11 @@ use Rattle.std.proofs.lemmas.Slice.Eq.{bytes_eq-Decides, starts_is}
 use Rattle.vlog_lex.specs.declared.closed.Inside.TheVariants.{Comment, Attribute}
 use Rattle.vlog_lex.specs.declared.token.TokenKind.TheVariants.{Outside}
 use Rattle.vlog_lex.specs.declared.token.Piece.TheVariants.{Skip, Token}
-use Rattle.vlog_lex.specs.Bytes.{is_blank, is_letter, is_name_byte}
+use Rattle.ila_base.specs.Bytes.{is_blank, is_letter, is_in_line}
+use Rattle.vlog_lex.specs.Bytes.{is_name_byte}
 use Rattle.vlog_lex.specs.Runs.{IsRun, IsFirst}
 use Rattle.vlog_lex.specs.Closed.{closed_length}
-use Rattle.vlog_lex.specs.Skipped.{begins, is_in_line, ends_word, is_endif, Skips, blank, line_comment, block_comment, attribute, timescale, glbl}
+use Rattle.vlog_lex.specs.Skipped.{begins, ends_word, is_endif, Skips, blank, line_comment, block_comment, attribute, timescale, glbl}
 use Rattle.vlog_lex.specs.Pieces.{begins_as, IsName, IsOutside, directive, opens_attribute}
 use Rattle.vlog_lex.specs.Reading.{line_length, first_at, glbl_behind, glbl_length, directive_with, directive_behind, piece_at}
 use Rattle.vlog_lex.proofs.RunLaws.{outcome, run_length, run_take, run_drop, run_of, first_length, FirstOf, first_of_text}

@@ -1,29 +1,22 @@
 -- One piece on through a text.
-use Rattle.std.proofs.Common.{◌≡◌, ◌≢◌, ℕ, ◌+◌, ◌-◌, ◌<◌, ◌≤◌, List, [], ◌∷◌, ◌++◌, refl, sym, ◌∙◌, ap, subst, arith, length, take, drop, append_assoc, length-append, length-drop, length-take-le, take-append-drop}
+use Rattle.std.proofs.Common.{◌≡◌, ◌≢◌, ℕ, ◌+◌, ◌<◌, ◌≤◌, List, [], ◌∷◌, ◌++◌, refl, sym, ◌∙◌, ap, subst, arith, length, take, drop, append_assoc, length-drop, length-take-le}
 use Rattle.std.specs.Prelude.{Option, Some, None}
-use Rattle.std.specs.List.{suffix_len}
-use Rattle.std.proofs.lemmas.List.{take_at, drop_at, drop-drop, drop_all, drop-take, take-take, take_rest, append-nil}
-use Rattle.std.proofs.lemmas.List.Sums.{suffix_len-le-length}
+use Rattle.std.proofs.lemmas.List.{drop_all, append-nil}
+use Rattle.ila_base.proofs.TextLaws.{rest_behind, front_with, front_within}
 use Rattle.ila_base.specs.declared.place.Place.{Place}
 use Rattle.vlog_lex.specs.declared.token.Token.{Token}
-use Rattle.vlog_lex.specs.declared.token.NetFault.{NetFault}
-use Rattle.vlog_lex.specs.declared.token.NetStop.{NetStop}
-use Rattle.vlog_lex.specs.declared.token.NetStop.TheVariants.{Refused as Stopped, NoMemory}
+use Rattle.ila_base.specs.declared.fault.NetFault.{NetFault}
+use Rattle.ila_base.specs.declared.fault.NetStop.{NetStop}
+use Rattle.ila_base.specs.declared.fault.NetStop.TheVariants.{Refused as Stopped, NoMemory}
 use Rattle.vlog_lex.specs.declared.token.Piece.{Piece}
 use Rattle.vlog_lex.specs.declared.token.Piece.TheVariants.{Skip, Token as Taken, Refused}
-use Rattle.vlog_lex.specs.Skipped.{is_in_line}
-use Rattle.vlog_lex.specs.Cutting.{place_behind, token_behind, refusal_of, fault_behind, StopsFor, Cuts, ends, skips, takes, refuses, settled, IsReading, cut}
+use Rattle.ila_base.specs.Places.{place_behind}
+use Rattle.vlog_lex.specs.Cutting.{token_behind, refusal_of, fault_behind, Cuts, ends, skips, takes, refuses, settled, IsReading, cut}
+use Rattle.ila_base.specs.Stops.{StopsFor}
 use Rattle.vlog_lex.specs.Reading.{piece_at, bytes_of}
 use Rattle.vlog_lex.specs.Taking.{IsTaken, IsFlawAt}
-use Rattle.vlog_lex.proofs.Found.{Begins}
 use Rattle.vlog_lex.proofs.PieceLaws.{Told, piece_told}
 use Rattle.vlog_lex.proofs.SettleLaws.{IsCutOff}
-
--- a column is no further than there are bytes before it
-pub col_at : (text : List ℕ) (at : ℕ) (place : Place) → at ≤ length text → place ≡ place_behind (take at text) → place.col ≤ at + 1
-col_at text at place within there =
-    let is : place.col ≡ suffix_len is_in_line (take at text) + 1 = ap (λ p. p.col) there in
-    omega (arith, is, suffix_len-le-length is_in_line (take at text), length-take-le at text within)
 
 some_left : (text : List ℕ) (at : ℕ) → at < length text → drop at text ≢ []
 some_left text at within none = omega (arith, length-drop at text, ap length none)
@@ -36,22 +29,9 @@ module _ (text : List ℕ) (at : ℕ) (within : at < length text) where
   told : (piece : Piece) → piece ≡ piece_at (drop at text) → Told piece (drop at text)
   told piece is = subst (λ p. Told p (drop at text)) (sym is) (piece_told (drop at text) (some_left text at within))
 
-  module _ {R : List ℕ → List ℕ → Type 0} {n : ℕ} (b : Begins R n (drop at text)) where
-    behind : drop (at + n) text ≡ b.rest
-    behind = sym (drop-drop n at text) ∙ ap (drop n) b.whole ∙ drop_at b.bytes b.rest n (sym b.count)
-
-    before : take (at + n) text ≡ take at text ++ b.bytes
-    before =
-        let whole : text ≡ (take at text ++ b.bytes) ++ b.rest = sym (take-append-drop at text) ∙ ap (λ l. take at text ++ l) b.whole ∙ sym (append_assoc (take at text) b.bytes b.rest) in
-        let long : length (take at text ++ b.bytes) ≡ at + n = omega (arith, length-append (take at text) b.bytes, length-take-le at text (omega arith), b.count) in
-        ap (take (at + n)) whole ∙ take_at (take at text ++ b.bytes) b.rest (at + n) long
-
-    enough : at + n ≤ length text
-    enough = omega (arith, ap length b.whole, length-append b.bytes b.rest, length-drop at text, b.count)
-
   told_within : (piece : Piece) → Told piece (drop at text) → at + bytes_of piece ≤ length text
-  told_within (Skip n) t = enough t
-  told_within (Taken kind n) t = enough t
+  told_within (Skip n) t = front_within text at within t
+  told_within (Taken kind n) t = front_within text at within t
   told_within (Refused flaw) t = omega arith
 
   -- a piece is within the text
@@ -59,8 +39,8 @@ module _ (text : List ℕ) (at : ℕ) (within : at < length text) where
   piece_within piece is = told_within piece (told piece is)
 
   taken_count : (place : Place) (piece : Piece) (count : ℕ) (old new : List Token) → Told piece (drop at text) → IsTaken at place piece count old new → (0 < count) × (at + count ≤ length text)
-  taken_count place (Skip n) count old new t taken = (omega (arith, t.some, taken.0), omega (arith, enough t, taken.0))
-  taken_count place (Taken kind n) count old new t taken = (omega (arith, t.some, taken.0), omega (arith, enough t, taken.0))
+  taken_count place (Skip n) count old new t taken = (omega (arith, t.some, taken.0), omega (arith, front_within text at within t, taken.0))
+  taken_count place (Taken kind n) count old new t taken = (omega (arith, t.some, taken.0), omega (arith, front_within text at within t, taken.0))
   taken_count place (Refused flaw) count old new t taken = absurd taken
 
   -- a piece that is taken has bytes of the text
@@ -70,11 +50,11 @@ module _ (text : List ℕ) (at : ℕ) (within : at < length text) where
   rests : (place : Place) (piece : Piece) (count : ℕ) (old new : List Token) → place ≡ place_behind (take at text) → Told piece (drop at text) → IsCutOff at place piece count old new → Rests text at old → Rests text (at + count) new
   rests place (Skip n) count old new there t taken so more fault c =
       let here : Cuts (take (at + n) text) (drop (at + n) text) more fault = subst (λ k. Cuts (take (at + k) text) (drop (at + k) text) more fault) taken.0 c in
-      let moved : Cuts (take at text ++ t.bytes) t.rest more fault = subst (λ r. Cuts (take at text ++ t.bytes) r more fault) (behind t) (subst (λ b. Cuts b (drop (at + n) text) more fault) (before t) here) in
+      let moved : Cuts (take at text ++ t.bytes) t.rest more fault = subst (λ r. Cuts (take at text ++ t.bytes) r more fault) (rest_behind text at within t) (subst (λ b. Cuts b (drop (at + n) text) more fault) (front_with text at within t) here) in
       rw taken.1 (so more fault (skips t.bytes t.rest t.whole t.holds moved))
   rests place (Taken kind n) count old new there t taken so more fault c =
       let here : Cuts (take (at + n) text) (drop (at + n) text) more fault = subst (λ k. Cuts (take (at + k) text) (drop (at + k) text) more fault) taken.0 c in
-      let moved : Cuts (take at text ++ t.bytes) t.rest more fault = subst (λ r. Cuts (take at text ++ t.bytes) r more fault) (behind t) (subst (λ b. Cuts b (drop (at + n) text) more fault) (before t) here) in
+      let moved : Cuts (take at text ++ t.bytes) t.rest more fault = subst (λ r. Cuts (take at text ++ t.bytes) r more fault) (rest_behind text at within t) (subst (λ b. Cuts b (drop (at + n) text) more fault) (front_with text at within t) here) in
       let long : at ≡ length (take at text) = sym (length-take-le at text (omega arith)) in
       let token : Token = record { kind = kind; place = place; start = at; end = at + n } in
       let same : token ∷ more ≡ token_behind (take at text) kind t.bytes ∷ more = (λ i. record { kind = kind; place = there i; start = long i; end = long i + t.count i } ∷ more) in
@@ -95,16 +75,6 @@ module _ (text : List ℕ) (at : ℕ) (within : at < length text) where
 -- at its end a text is cut
 pub rests_end : (text : List ℕ) (at : ℕ) (tokens : List Token) → length text ≤ at → Rests text at tokens → Cuts [] text tokens None
 rests_end text at tokens past so = subst (λ ts. Cuts [] text ts None) (append-nil tokens) (so [] None (ends (drop_all at text past) refl refl))
-
--- the bytes from one place on, behind those before it
-pub take_on : (text : List ℕ) (at n : ℕ) → take at text ++ take n (take (length text - at) (drop at text)) ≡ take (at + n) text
-take_on text at n =
-    let inner : take n (take (length text - at) (drop at text)) ≡ drop at (take (at + n) text) = ap (take n) (take_rest text at) ∙ sym (drop-take at n text) in
-    ap (λ l. take at text ++ l) inner ∙ ap (λ l. l ++ drop at (take (at + n) text)) (sym (take-take at (at + n) text (omega arith))) ∙ take-append-drop at (take (at + n) text)
-
-pub count_on : (text : List ℕ) (at n : ℕ) → at + n ≤ length text → length (take n (take (length text - at) (drop at text))) ≡ n
-count_on text at n within =
-    ap (λ l. length (take n l)) (take_rest text at) ∙ length-take-le n (drop at text) (omega (arith, length-drop at text))
 
 -- a stop at the piece is a stop for a fault of the whole text
 pub piece_stops : (text : List ℕ) (at : ℕ) → at < length text → (place : Place) (piece : Piece) (tokens : List Token) (stop : NetStop) → place ≡ place_behind (take at text) → piece ≡ piece_at (drop at text) → Rests text at tokens

@@ -6,10 +6,10 @@ use Rattle.std.proofs.lemmas.Nat.{pow_pos}
 use Rattle.vlog_lex.specs.declared.token.Token.{Token}
 use Rattle.vlog_lex.specs.declared.token.TokenKind.{TokenKind}
 use Rattle.vlog_lex.specs.declared.token.TokenKind.TheVariants.{Ident, Escaped, Number, Sized, Text, Mark, Outside}
-use Rattle.vlog_lex.specs.declared.token.NetFault.{NetFault}
+use Rattle.ila_base.specs.declared.fault.NetFault.{NetFault}
 use Rattle.vlog_lex.specs.declared.token.Flaw.TheVariants.{BadByte}
 use Rattle.vlog_lex.specs.declared.token.Piece.TheVariants.{Token as Taken, Refused}
-use Rattle.vlog_lex.specs.Numbers.{value}
+use Rattle.ila_base.specs.Bytes.{value}
 use Rattle.vlog_lex.specs.Pieces.{Parts, width_of, word_of}
 use Rattle.vlog_lex.specs.Refusals.{IsAllowed}
 use Rattle.vlog_lex.specs.Cutting.{token_behind, Cuts, ends, skips, takes, refuses, is_mark_of, settled_token, settled, IsWithin, RiseFrom, HasWord}

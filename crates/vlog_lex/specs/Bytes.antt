@@ -1,32 +1,13 @@
 -- The classes of bytes that the lexical conventions speak of (IEEE 1364-2005, clause 3).
-use Rattle.std.specs.Prelude.{ℕ, Bool, ◌&&◌, ◌||◌, ◌==◌, nat_le, nat_eq, if◌then◌else◌, codes}
+use Rattle.std.specs.Prelude.{ℕ, Bool, ◌||◌, ◌==◌, nat_eq, if◌then◌else◌, codes}
 use Rattle.std.specs.List.{list_any}
+use Rattle.ila_base.specs.Bytes.{is_between, is_blank, is_letter, is_digit, is_word_byte}
 use Rattle.vlog_lex.specs.declared.bytes.Class.{Class}
 use Rattle.vlog_lex.specs.declared.bytes.Class.TheVariants.{Blank, Letter, Digit, Mark, Parenthesis, Slash, Operator, Quote, Backslash, Backquote, Other}
 
--- the byte is one from low to high
-abbrev pub is_between : ℕ → ℕ → ℕ → Bool
-is_between low high b = nat_le low b && nat_le b high
-
--- a newline ends a line
-abbrev pub is_newline : ℕ → Bool
-is_newline b = b == 10
-
--- white space: space, tab, newline, form feed (3.2), and carriage return
-abbrev pub is_blank : ℕ → Bool
-is_blank b = b == 32 || b == 9 || b == 10 || b == 12 || b == 13
-
--- a letter or `_`, with which an identifier begins (3.7)
-abbrev pub is_letter : ℕ → Bool
-is_letter b = is_between 97 122 b || is_between 65 90 b || b == 95
-
--- a decimal digit
-abbrev pub is_digit : ℕ → Bool
-is_digit b = is_between 48 57 b
-
 -- a byte of an identifier: a letter, `_`, a digit or `$` (3.7)
 abbrev pub is_name_byte : ℕ → Bool
-is_name_byte b = is_letter b || is_digit b || b == 36
+is_name_byte b = is_word_byte b || b == 36
 
 -- a byte of a decimal number: a digit or `_` (3.5.1)
 abbrev pub is_number_byte : ℕ → Bool

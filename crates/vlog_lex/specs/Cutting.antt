@@ -1,27 +1,20 @@
 -- What a text is cut into: its tokens, each with its place, up to the first place where it is refused.
-use Rattle.std.specs.Prelude.{◌≡◌, ℕ, ◌+◌, ◌^◌, ◌<◌, ◌≤◌, List, [], ◌∷◌, ◌++◌, length, Bool, false, not, ◌&&◌, ◌==◌, if◌then◌else◌, Option, Some, None, count_by}
-use Rattle.std.specs.List.{suffix_len}
-use Rattle.ila_base.specs.declared.place.Place.{Place}
+use Rattle.std.specs.Prelude.{◌≡◌, ℕ, ◌+◌, ◌^◌, ◌<◌, ◌≤◌, List, [], ◌∷◌, ◌++◌, length, Bool, false, not, ◌&&◌, ◌==◌, if◌then◌else◌, Option, Some, None}
 use Rattle.ila_base.specs.declared.refusal.LimitKind.TheVariants.{FileBytes, NameLength as NameBytes, Constant as ConstantSize}
+use Rattle.ila_base.specs.declared.limits.TheConstants.{FILE_BYTES, CONSTANT_BITS}
+use Rattle.ila_base.specs.declared.place.TheConstants.Place.{NOWHERE}
+use Rattle.ila_base.specs.Places.{place_behind}
 use Rattle.ila_base.specs.declared.refusal.NetRefusal.{NetRefusal}
 use Rattle.ila_base.specs.declared.refusal.NetRefusal.TheVariants.{BadByte as NoToken, XZ as UnknownDigit, Limit}
 use Rattle.vlog_lex.specs.declared.token.Token.{Token}
 use Rattle.vlog_lex.specs.declared.token.TokenKind.{TokenKind}
 use Rattle.vlog_lex.specs.declared.token.TokenKind.TheVariants.{Sized, Mark, Outside}
-use Rattle.vlog_lex.specs.declared.token.NetFault.{NetFault}
-use Rattle.vlog_lex.specs.declared.token.NetStop.{NetStop}
-use Rattle.vlog_lex.specs.declared.token.NetStop.TheVariants.{Refused, NoMemory}
+use Rattle.ila_base.specs.declared.fault.NetFault.{NetFault}
 use Rattle.vlog_lex.specs.declared.token.Flaw.{Flaw}
 use Rattle.vlog_lex.specs.declared.token.Flaw.TheVariants.{BadByte, XZ, NameLength, Constant}
-use Rattle.vlog_lex.specs.Bytes.{is_newline}
-use Rattle.vlog_lex.specs.Skipped.{is_in_line, Skips}
+use Rattle.vlog_lex.specs.Skipped.{Skips}
 use Rattle.vlog_lex.specs.Pieces.{IsToken}
 use Rattle.vlog_lex.specs.Refusals.{IsAllowed, Refuses}
-
--- the place of a byte that stands behind these: its line is counted by the newlines, its column by the
--- bytes behind the last of them, both from 1
-abbrev pub place_behind : List ℕ → Place
-place_behind before = record { line = count_by is_newline before + 1; col = suffix_len is_in_line before + 1 }
 
 -- the token of the bytes that stand behind these
 abbrev pub token_behind : List ℕ → TokenKind → List ℕ → Token
@@ -89,14 +82,14 @@ pub record AreTokens (text : List ℕ) (tokens : List Token) : Type 0 where
 
 -- the fault of a text that has too many bytes
 abbrev pub size_fault : NetFault
-size_fault = record { refusal = Limit FileBytes 67108865; place = record { line = 0; col = 0 } }
+size_fault = record { refusal = Limit FileBytes (FILE_BYTES + 1); place = NOWHERE }
 
 -- the tokens of a text, and the fault for which it is refused, if it is
 pub data IsReading : List ℕ → List Token → Option NetFault → Type 0 where
-  too_long : {text : List ℕ} {tokens : List Token} {fault : Option NetFault} → 67108864 < length text
+  too_long : {text : List ℕ} {tokens : List Token} {fault : Option NetFault} → FILE_BYTES < length text
       → tokens ≡ [] → fault ≡ Some size_fault → IsReading text tokens fault
   cut : {text : List ℕ} {tokens : List Token} {fault : Option NetFault} (pieces : List Token)
-      → length text ≤ 67108864 → Cuts [] text pieces fault → tokens ≡ settled pieces
+      → length text ≤ FILE_BYTES → Cuts [] text pieces fault → tokens ≡ settled pieces
       → IsReading text tokens fault
 
 -- the refusal is for the size of the text, of an identifier or of a constant
@@ -105,11 +98,6 @@ IsSizeRefusal (Limit FileBytes n) = Unit {0}
 IsSizeRefusal (Limit NameBytes n) = Unit {0}
 IsSizeRefusal (Limit ConstantSize n) = Unit {0}
 IsSizeRefusal refusal = ⊥
-
--- the call stopped for a fault of which P holds, or since memory was not found
-abbrev pub StopsFor : (NetFault → Type 0) → NetStop → Type 0
-StopsFor P (Refused fault) = P fault
-StopsFor P NoMemory = Unit {0}
 
 -- the token has bytes, and they are among the first n
 abbrev pub IsWithin : ℕ → Token → Type 0
@@ -122,5 +110,5 @@ RiseFrom from (token ∷ tokens) = (from ≤ token.start) × RiseFrom token.end 
 
 -- a constant has a width from 1 to 128, and a value below 2 to the width
 abbrev pub HasWord : TokenKind → Type 0
-HasWord (Sized word) = (0 < word.width) × (word.width ≤ 128) × (word.value < 2 ^ word.width)
+HasWord (Sized word) = (0 < word.width) × (word.width ≤ CONSTANT_BITS) × (word.value < 2 ^ word.width)
 HasWord kind = Unit {0}

@@ -1,5 +1,5 @@
 -- A sized constant in four parts of 32 bits, the most significant one first.
-use Rattle.std.specs.Prelude.{ℕ, ◌+◌, ◌*◌, ◌/◌, ◌%◌, ◌^◌, ◌<◌}
+use Rattle.std.specs.Prelude.{◌+◌, ◌*◌, ◌/◌, ◌%◌, ◌^◌, ◌<◌}
 use Rattle.ila_base.specs.declared.place.Word.{Word}
 use Rattle.vlog_lex.specs.declared.packed.PackedWord.TheInside.{Inside}
 

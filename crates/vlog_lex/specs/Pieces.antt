@@ -4,9 +4,10 @@ use Rattle.std.specs.List.{list_any, list_all}
 use Rattle.ila_base.specs.declared.place.Word.{Word}
 use Rattle.vlog_lex.specs.declared.token.TokenKind.{TokenKind}
 use Rattle.vlog_lex.specs.declared.token.TokenKind.TheVariants.{Ident, Escaped, Number, Sized, Text, Mark, Outside}
-use Rattle.vlog_lex.specs.Bytes.{is_blank, is_letter, is_digit, is_name_byte, is_number_byte, is_printable, is_mark, is_operator}
+use Rattle.ila_base.specs.Bytes.{is_blank, is_letter, is_digit, is_underscore, value}
+use Rattle.vlog_lex.specs.Bytes.{is_name_byte, is_number_byte, is_printable, is_mark, is_operator}
 use Rattle.vlog_lex.specs.Construct.{is_construct}
-use Rattle.vlog_lex.specs.Numbers.{base_of, is_place, is_underscore, is_unknown, value}
+use Rattle.vlog_lex.specs.Numbers.{base_of, is_place, is_unknown}
 use Rattle.vlog_lex.specs.Runs.{IsRun}
 use Rattle.vlog_lex.specs.Skipped.{begins, IsQuoted, Skips}
 

@@ -3,7 +3,7 @@
 use Rattle.std.specs.Prelude.{ℕ, suc, ◌+◌, ◌^◌, ◌%◌, ◌<◌, ◌≤◌, List, [], ◌∷◌, take, drop, min, Bool, not, ◌==◌, nat_lt, slice_range, if◌then◌else◌, Option, Some, None, option_map, option_and_then, codes}
 use Rattle.std.specs.List.{prefix_len, list_any, list_all}
 use Rattle.std.specs.Str.{bytes_eq}
-use Rattle.ila_base.specs.declared.place.Place.{Place}
+use Rattle.ila_base.specs.declared.limits.TheConstants.{NAME_BYTES, CONSTANT_BITS, GREATEST_NUMBER}
 use Rattle.vlog_lex.specs.declared.bytes.Class.{Class}
 use Rattle.vlog_lex.specs.declared.bytes.Class.TheVariants.{Blank, Letter, Digit, Mark as MarkByte, Parenthesis, Slash, Operator, Quote, Backslash, Backquote, Other}
 use Rattle.vlog_lex.specs.declared.closed.Inside.TheVariants.{Comment, Text as InText, Attribute}
@@ -12,12 +12,13 @@ use Rattle.vlog_lex.specs.declared.token.TokenKind.TheVariants.{Ident, Escaped, 
 use Rattle.vlog_lex.specs.declared.token.Flaw.TheVariants.{BadByte, XZ, NameLength, Constant}
 use Rattle.vlog_lex.specs.declared.token.Piece.{Piece}
 use Rattle.vlog_lex.specs.declared.token.Piece.TheVariants.{Skip, Token, Refused}
-use Rattle.vlog_lex.specs.Bytes.{is_newline, is_blank, is_letter, is_name_byte, is_number_byte, is_printable, class_of}
-use Rattle.vlog_lex.specs.Skipped.{is_in_line, is_endif}
+use Rattle.ila_base.specs.Bytes.{is_blank, is_letter, is_in_line, is_underscore, value}
+use Rattle.vlog_lex.specs.Bytes.{is_name_byte, is_number_byte, is_printable, class_of}
+use Rattle.vlog_lex.specs.Skipped.{is_endif}
 use Rattle.vlog_lex.specs.Pieces.{begins_as, ends_escaped, opens_attribute}
 use Rattle.vlog_lex.specs.Closed.{closed_length}
 use Rattle.vlog_lex.specs.Construct.{is_construct}
-use Rattle.vlog_lex.specs.Numbers.{base_of, is_place, is_underscore, is_unknown, value}
+use Rattle.vlog_lex.specs.Numbers.{base_of, is_place, is_unknown}
 
 -- how far it is to the end of the line
 abbrev pub line_length : List ℕ → ℕ
@@ -52,17 +53,17 @@ suffix_at text = suffix_behind (blank_length text) (drop (blank_length text) tex
 
 -- a number that is above 2 ^ 32 - 1 counts as 2 ^ 32
 abbrev pub capped : ℕ → ℕ
-capped n = min n 4294967296
+capped n = min n (GREATEST_NUMBER + 1)
 
 abbrev pub whole_piece : ℕ → ℕ → Piece
-whole_piece number count = if number == 4294967296 then Refused (Constant number) else Token (Number number) count
+whole_piece number count = if number == (GREATEST_NUMBER + 1) then Refused (Constant number) else Token (Number number) count
 
 abbrev pub constant_piece : ℕ → ℕ → List ℕ → ℕ → Piece
 constant_piece width base digits count =
     if list_any is_unknown digits then Refused XZ
-    else (if nat_lt 128 width then Refused (Constant width)
+    else (if nat_lt CONSTANT_BITS width then Refused (Constant width)
     else (if nat_lt (value base digits) (2 ^ 128) then Token (Sized (record { width = width; value = value base digits % 2 ^ width })) count
-    else Refused (Constant 129)))
+    else Refused (Constant (CONSTANT_BITS + 1))))
 
 abbrev pub number_with : ℕ → ℕ → List ℕ → Option Suffix → Piece
 number_with width count behind None = whole_piece width count
@@ -79,14 +80,14 @@ abbrev pub word_at : List ℕ → Piece
 word_at text =
     let count = name_length text in
     if is_construct (take count text) then Token Outside count
-    else (if nat_lt 1024 count then Refused (NameLength count)
+    else (if nat_lt NAME_BYTES count then Refused (NameLength count)
     else Token Ident count)
 
 abbrev pub escaped_with : ℕ → Bool → Piece
 escaped_with count ends =
     if count == 0 then Refused BadByte
     else (if not ends then Refused BadByte
-    else (if nat_lt 1024 count then Refused (NameLength count)
+    else (if nat_lt NAME_BYTES count then Refused (NameLength count)
     else Token Escaped (count + 1)))
 
 abbrev pub escaped_behind : List ℕ → Piece
@@ -155,11 +156,6 @@ by_class Other b text = Refused BadByte
 abbrev pub piece_at : List ℕ → Piece
 piece_at [] = Refused BadByte
 piece_at (b ∷ text) = by_class (class_of b) b text
-
--- the place behind one more byte
-abbrev pub place_after : Place → ℕ → Place
-place_after place b =
-    if is_newline b then record { line = place.line + 1; col = 1 } else record { line = place.line; col = place.col + 1 }
 
 -- how many bytes a piece has
 abbrev pub bytes_of : Piece → ℕ

@@ -2,16 +2,13 @@
 -- 1364-2005, 3.2, 3.3, 3.8 and clause 19).
 use Rattle.std.specs.Prelude.{◌≡◌, ℕ, List, [], ◌∷◌, ◌++◌, drop, Bool, true, false, not, ◌&&◌, ◌||◌, ◌==◌, nat_eq, codes}
 use Rattle.std.specs.List.{starts_with}
-use Rattle.vlog_lex.specs.Bytes.{is_newline, is_blank, is_name_byte}
+use Rattle.ila_base.specs.Bytes.{is_in_line, is_blank}
+use Rattle.vlog_lex.specs.Bytes.{is_name_byte}
 use Rattle.vlog_lex.specs.Runs.{IsRun, IsFirst}
 
 -- the text begins with the bytes
 abbrev pub begins : List ℕ → List ℕ → Bool
 begins bytes text = starts_with nat_eq text bytes
-
--- a byte that doesn't end its line
-abbrev pub is_in_line : ℕ → Bool
-is_in_line b = not (is_newline b)
 
 -- what follows the opening `/*` of a block comment, up to and with the first `*/` (3.3)
 pub data IsComment : List ℕ → Type 0 where

@@ -2,7 +2,7 @@
 use Rattle.std.specs.Prelude.{◌≡◌, ℕ, ◌+◌, Bool, List, [], ◌∷◌, ◌++◌}
 use Rattle.ila_base.specs.declared.place.Place.{Place}
 use Rattle.vlog_lex.specs.declared.token.Token.{Token as TokenOf}
-use Rattle.vlog_lex.specs.declared.token.NetFault.{NetFault}
+use Rattle.ila_base.specs.declared.fault.NetFault.{NetFault}
 use Rattle.vlog_lex.specs.declared.token.Piece.{Piece}
 use Rattle.vlog_lex.specs.declared.token.Piece.TheVariants.{Skip, Token, Refused}
 use Rattle.vlog_lex.specs.Cutting.{refusal_of, is_mark_of, settled_token}

@@ -1,5 +1,8 @@
 ghost use Rattle.std.specs.Prelude.{◌≡◌};
-ghost use Rattle.vlog_lex.specs.Bytes.{is_blank, is_letter, is_digit, is_name_byte, is_number_byte, is_printable, is_newline, is_mark, is_operator, class_of, class_of_other};
+ghost use Rattle.ila_base.specs.Bytes.{is_blank, is_letter, is_digit, is_newline};
+ghost use Rattle.vlog_lex.specs.Bytes.{is_name_byte, is_number_byte, is_printable, is_mark, is_operator, class_of, class_of_other};
+
+use ila_base::bytes::{is_blank, is_digit, is_letter, is_word_byte};
 
 /// What a byte outside comments, strings and names may begin.
 #[derive(Clone, Copy, Debug)]
@@ -28,34 +31,10 @@ pub enum Class {
     Other,
 }
 
-pub fn is_newline(byte: u8) -> bool
-    ensures { result ≡ is_newline byte }
-{
-    byte == b'\n'
-}
-
-pub fn is_blank(byte: u8) -> bool
-    ensures { result ≡ is_blank byte }
-{
-    matches!(byte, b' ' | b'\t' | b'\n' | 0x0c | b'\r')
-}
-
-pub fn is_letter(byte: u8) -> bool
-    ensures { result ≡ is_letter byte }
-{
-    matches!(byte, b'a'..=b'z' | b'A'..=b'Z' | b'_')
-}
-
-pub fn is_digit(byte: u8) -> bool
-    ensures { result ≡ is_digit byte }
-{
-    byte.is_ascii_digit()
-}
-
 pub fn is_name_byte(byte: u8) -> bool
     ensures { result ≡ is_name_byte byte }
 {
-    is_letter(byte) || is_digit(byte) || byte == b'$'
+    is_word_byte(byte) || byte == b'$'
 }
 
 pub fn is_number_byte(byte: u8) -> bool

@@ -1,13 +1,17 @@
 ghost use Rattle.std.specs.Prelude.{◌≡◌, ◌+◌, ◌*◌, ◌^◌, ◌<◌, ◌≤◌, length, IfSome, ◌%◌};
 ghost use Rattle.std.specs.List.{list_any, list_all};
-ghost use Rattle.vlog_lex.specs.Numbers.{is_unknown, is_underscore, value};
+ghost use Rattle.vlog_lex.specs.Numbers.{is_unknown};
+ghost use Rattle.ila_base.specs.Bytes.{is_underscore, value};
+ghost use Rattle.ila_base.specs.declared.limits.TheConstants.{CONSTANT_BITS, GREATEST_NUMBER};
 ghost use Rattle.vlog_lex.specs.Reading.{IsSuffixWithin, digits_at, suffix_behind, suffix_at, capped, whole_piece, constant_piece, number_with, number_at};
 
-use crate::number::{base_of, is_underscore, is_unknown, value};
+use crate::number::{base_of, is_unknown};
 use crate::packed::PackedWord;
 use crate::runs::{blank_length, number_length, place_length};
 use crate::token::{Flaw, Piece, TokenKind};
-use ila_base::Word;
+use ila_base::bytes::is_underscore;
+use ila_base::limits::{CONSTANT_BITS, GREATEST_NUMBER};
+use ila_base::{Word, numeral_value};
 
 /// The part of a sized constant behind the number of its width (IEEE 1364-2005, 3.5.1).
 #[derive(Clone, Copy, Debug)]
@@ -21,7 +25,7 @@ pub struct Suffix {
 }
 
 /// An unsized number from here on is too large, and a width from here on is told by this number.
-const TOO_LARGE: u64 = 4_294_967_296;
+const TOO_LARGE: u64 = GREATEST_NUMBER as u64 + 1;
 
 fn are_underscores(digits: &[u8]) -> bool
     ensures { result ≡ list_all is_underscore digits.now }
@@ -83,7 +87,7 @@ fn suffix_at(text: &[u8]) -> Option<Suffix>
 fn capped_value(number: &[u8]) -> u64
     ensures { result ≡ capped (value 10 number.now) }
 {
-    match value(10, number) {
+    match numeral_value(10, number) {
         Some(all) if all < u128::from(TOO_LARGE) => all as u64,
         _ => TOO_LARGE,
     }
@@ -91,7 +95,7 @@ fn capped_value(number: &[u8]) -> u64
 
 /// The number of so many bytes.
 fn whole_piece(number: u64, count: usize) -> Piece
-    requires { number ≤ 4294967296 }
+    requires { number ≤ GREATEST_NUMBER + 1 }
     ensures { result ≡ whole_piece number count }
 {
     if number == TOO_LARGE {
@@ -108,25 +112,25 @@ fn constant_piece(width: u64, base: u8, digits: &[u8], count: usize) -> Piece
     if has_unknown(digits) {
         return Piece::Refused(Flaw::XZ);
     }
-    if width > 128 {
+    if width > u64::from(CONSTANT_BITS) {
         return Piece::Refused(Flaw::Constant(width));
     }
-    match value(base, digits) {
+    match numeral_value(base, digits) {
         Some(all) => {
             let word = PackedWord::new(cut(width as u8, all));
             Piece::Token(TokenKind::Sized(word), count)
         }
-        // The digits need 129 bits or more.
-        None => Piece::Refused(Flaw::Constant(129)),
+        // The digits need more bits.
+        None => Piece::Refused(Flaw::Constant(u64::from(CONSTANT_BITS) + 1)),
     }
 }
 
 /// The word of the width with as many of the value's low bits.
 fn cut(width: u8, value: u128) -> Word
-    requires { width ≤ 128 }
+    requires { width ≤ CONSTANT_BITS }
     ensures { result ≡ record { width = width; value = value % 2 ^ width } }
 {
-    if width == 128 {
+    if width == CONSTANT_BITS {
         return Word { width, value };
     }
     Word {
@@ -137,7 +141,7 @@ fn cut(width: u8, value: u128) -> Word
 
 /// The number that what follows makes a constant, or leaves a number.
 fn number_with(width: u64, count: usize, behind: &[u8], suffix: Option<Suffix>) -> Piece
-    requires width { width ≤ 4294967296 }
+    requires width { width ≤ GREATEST_NUMBER + 1 }
     requires room { count + length behind.now < 2 ^ 64 }
     requires within { IfSome suffix (IsSuffixWithin (length behind.now)) }
     ensures { result ≡ number_with width count behind.now suffix }

@@ -1,15 +1,16 @@
 ghost use Rattle.std.specs.Prelude.{◌≡◌, ℕ, List, [], ◌+◌, ◌^◌, ◌<◌, ◌≤◌, Some, None, length, IfOk, IfErr};
 ghost use Rattle.vlog_lex.specs.declared.token.Token.{Token as TokenOf};
-ghost use Rattle.vlog_lex.specs.Cutting.{Cuts, settled, StopsFor};
+ghost use Rattle.vlog_lex.specs.Cutting.{Cuts, settled};
+ghost use Rattle.ila_base.specs.Stops.{StopsFor};
+ghost use Rattle.ila_base.specs.declared.limits.TheConstants.{FILE_BYTES};
 ghost use Rattle.vlog_lex.specs.Reading.{bytes_of};
 ghost use Rattle.vlog_lex.specs.Taking.{IsTaken, IsFlawAt};
 
 use crate::directive::last_endif;
 use crate::marks::{is_mark_of, settle_last};
 use crate::piece::piece_at;
-use crate::place::place_behind;
-use crate::token::{NetFault, NetStop, Piece, Token};
-use ila_base::Place;
+use crate::token::{Piece, Token};
+use ila_base::{NetFault, NetStop, Place};
 use std::alloc::Global;
 
 /// Adds the token that a piece is, if it is one, to those before it, of which the last is settled
@@ -47,20 +48,20 @@ fn take_piece(
 
 /// The tokens of a text.
 pub fn cut(alloc: Global, text: &[u8]) -> Result<Vec<Token>, NetStop>
-    requires { length text.now ≤ 67108864 }
+    requires { length text.now ≤ FILE_BYTES }
     ensures found { IfOk result (λ tokens. (pieces : List TokenOf) × Cuts [] text.now pieces None × (tokens.items ≡ settled pieces)) }
     ensures refused { IfErr result (StopsFor (λ fault. (tokens : List TokenOf) × Cuts [] text.now tokens (Some fault))) }
 {
     let closing = last_endif(text);
     let mut tokens = Vec::new(alloc);
-    let mut place = Place { line: 1, col: 1 };
+    let mut place = Place::START;
     let mut at = 0;
     while at < text.len() {
-        let rest = &text[at..];
-        let piece = piece_at(rest, at < closing);
+        let piece = piece_at(&text[at..], at < closing);
         let count = take_piece(&mut tokens, at, place, piece)?;
-        place = place_behind(place, &rest[..count]);
-        at += count;
+        let end = at + count;
+        place = place.further(text, at, end);
+        at = end;
     }
     settle_last(&mut tokens, false);
     Ok(tokens)

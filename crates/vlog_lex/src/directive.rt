@@ -1,12 +1,13 @@
 ghost use Rattle.std.specs.Prelude.{◌≡◌, ◌≢◌, ℕ, ◌+◌, ◌^◌, ◌<◌, ◌≤◌, false, length, drop, IsTrue, None, IfSome};
-ghost use Rattle.vlog_lex.specs.Bytes.{is_letter};
+ghost use Rattle.ila_base.specs.Bytes.{is_letter};
 ghost use Rattle.vlog_lex.specs.Skipped.{ends_word, is_endif};
 ghost use Rattle.vlog_lex.specs.Pieces.{begins_as};
 ghost use Rattle.vlog_lex.specs.Reading.{first_at, glbl_behind, glbl_length, part_piece, directive_with, directive_behind};
 
-use crate::bytes::{is_letter, is_name_byte};
-use crate::runs::{blank_length, line_length, name_length};
+use crate::bytes::is_name_byte;
+use crate::runs::{blank_length, name_length};
 use crate::token::{Flaw, Piece, TokenKind};
+use ila_base::bytes::{is_letter, line_length};
 
 fn ends_word(text: &[u8]) -> bool
     ensures { result ≡ ends_word text.now }

@@ -1,6 +1,6 @@
 ghost use Rattle.std.specs.Prelude.{◌≡◌, ℕ, List, Option, None, ◌⊎◌, IfSome};
 ghost use Rattle.vlog_lex.specs.declared.token.Token.{Token as TokenOf};
-ghost use Rattle.vlog_lex.specs.declared.token.NetFault.{NetFault as FaultOf};
+ghost use Rattle.ila_base.specs.declared.fault.NetFault.{NetFault as FaultOf};
 ghost use Rattle.vlog_lex.specs.Cutting.{AreTokens, IsReading, IsSizeRefusal};
 
 /// A text is read in one way: as one list of tokens, and to its end or to one fault.

@@ -1,14 +1,13 @@
 ghost use Rattle.std.specs.Prelude.{List, Some, None, length, All, IfOk, IfErr};
 ghost use Rattle.vlog_lex.specs.declared.token.Token.{Token as TokenOf};
-ghost use Rattle.vlog_lex.specs.Cutting.{IsReading, StopsFor, AreTokens, IsWithin, RiseFrom, HasWord};
+ghost use Rattle.vlog_lex.specs.Cutting.{IsReading, AreTokens, IsWithin, RiseFrom, HasWord};
+ghost use Rattle.ila_base.specs.Stops.{StopsFor};
 
 use crate::cutting::cut;
-use crate::token::{NetFault, NetStop, Token};
-use ila_base::{LimitKind, NetRefusal, Place};
+use crate::token::Token;
+use ila_base::limits::FILE_BYTES;
+use ila_base::{LimitKind, NetFault, NetRefusal, NetStop, Place};
 use std::alloc::Global;
-
-/// How many bytes a text has at most.
-const LONGEST_TEXT: usize = 67_108_864;
 
 /// The tokens of a structural netlist text (IEEE 1364-2005, clause 3), in order. White space,
 /// comments, attributes, `` `timescale `` with the rest of its line, and a part from
@@ -32,9 +31,9 @@ pub fn tokens(alloc: Global, text: &[u8]) -> Result<Vec<Token>, NetStop>
     ensures rise { IfOk result (λ tokens. RiseFrom 0 tokens.items) }
     ensures words { IfOk result (λ tokens. All (λ token. HasWord token.kind) tokens.items) }
 {
-    if text.len() > LONGEST_TEXT {
+    if text.len() > FILE_BYTES {
         return Err(NetStop::Refused(NetFault {
-            refusal: NetRefusal::Limit(LimitKind::FileBytes, 67_108_865),
+            refusal: NetRefusal::Limit(LimitKind::FileBytes, FILE_BYTES as u64 + 1),
             place: Place::NOWHERE,
         }));
     }

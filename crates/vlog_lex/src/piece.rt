@@ -11,9 +11,9 @@ use crate::bytes::Class;
 use crate::closed::{Inside, closed_length};
 use crate::constant::number_at;
 use crate::directive::directive_behind;
-use crate::runs::line_length;
 use crate::token::{Flaw, Piece, TokenKind};
 use crate::words::{escaped_behind, word_at};
+use ila_base::bytes::line_length;
 
 /// What is closed from here on and skipped, with the two bytes that open it.
 fn skipped(inside: Inside, text: &[u8]) -> Piece

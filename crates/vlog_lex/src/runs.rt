@@ -4,16 +4,9 @@ ghost use Rattle.vlog_lex.specs.Bytes.{is_number_byte, is_printable};
 ghost use Rattle.vlog_lex.specs.Numbers.{is_place};
 ghost use Rattle.vlog_lex.specs.Reading.{line_length, blank_length, name_length};
 
-use crate::bytes::{is_blank, is_name_byte, is_newline, is_number_byte, is_printable};
+use crate::bytes::{is_name_byte, is_number_byte, is_printable};
 use crate::number::is_place;
-
-/// How many bytes there are to the end of the line.
-pub fn line_length(text: &[u8]) -> usize
-    ensures value { result ≡ line_length text.now }
-    ensures within { result ≤ length text.now }
-{
-    text.iter().take_while(|byte| !is_newline(**byte)).count()
-}
+use ila_base::bytes::is_blank;
 
 /// How many blanks the text begins with.
 pub fn blank_length(text: &[u8]) -> usize

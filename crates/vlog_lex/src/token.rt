@@ -1,10 +1,8 @@
 ghost use Rattle.std.specs.Prelude.{◌≡◌};
-ghost use Rattle.vlog_lex.specs.declared.token.NetStop.TheVariants.{NoMemory};
 ghost use Rattle.vlog_lex.specs.Cutting.{refusal_of};
 
 use crate::packed::PackedWord;
-use ila_base::{LimitKind, NetRefusal, NoMemory as MemoryFault, Place};
-use std::alloc::{AllocError, AllocFailed};
+use ila_base::{LimitKind, NetRefusal, Place};
 
 /// A token of a netlist text (IEEE 1364-2005, clause 3).
 #[derive(Clone, Copy, Debug, PartialEq, Eq)]
@@ -40,23 +38,6 @@ pub enum TokenKind {
     /// or a `#` whose next token isn't `(`. A part from `` `ifndef GLBL `` that no `` `endif `` ends
     /// is such a directive and then whatever follows it.
     Outside,
-}
-
-/// Why a netlist is refused, and where.
-#[derive(Debug, Drop)]
-pub struct NetFault {
-    pub refusal: NetRefusal,
-    /// 0:0 where the refusal has no place in the text.
-    pub place: Place,
-}
-
-/// Why a call on a netlist gives none.
-#[derive(Debug, Drop)]
-pub enum NetStop {
-    /// The netlist is refused.
-    Refused(NetFault),
-    /// Memory was not found.
-    NoMemory,
 }
 
 /// What keeps a piece of text from being cut off.
@@ -95,28 +76,4 @@ pub enum Piece {
     Token(TokenKind, usize),
     /// No piece: the text is refused here.
     Refused(Flaw),
-}
-
-impl From<AllocError> for NetStop {
-    ghost from_gives = { λ _ stop. stop ≡ NoMemory };
-
-    fn from(_failed: AllocError) -> NetStop {
-        NetStop::NoMemory
-    }
-}
-
-impl<T: Drop> From<AllocFailed<T>> for NetStop {
-    ghost from_gives = { λ _ stop. stop ≡ NoMemory };
-
-    fn from(_failed: AllocFailed<T>) -> NetStop {
-        NetStop::NoMemory
-    }
-}
-
-impl From<MemoryFault> for NetStop {
-    ghost from_gives = { λ _ stop. stop ≡ NoMemory };
-
-    fn from(_failed: MemoryFault) -> NetStop {
-        NetStop::NoMemory
-    }
 }

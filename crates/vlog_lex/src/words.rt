@@ -2,13 +2,11 @@ ghost use Rattle.std.specs.Prelude.{◌≡◌, ◌+◌, ◌^◌, ◌<◌, length
 ghost use Rattle.vlog_lex.specs.Pieces.{ends_escaped};
 ghost use Rattle.vlog_lex.specs.Reading.{word_at, escaped_with, escaped_behind};
 
-use crate::bytes::is_blank;
 use crate::construct::is_construct;
 use crate::runs::{name_length, printable_length};
 use crate::token::{Flaw, Piece, TokenKind};
-
-/// How many bytes an identifier has at most.
-const LONGEST_NAME: usize = 1024;
+use ila_base::bytes::is_blank;
+use ila_base::limits::NAME_BYTES;
 
 /// The identifier or keyword that the text begins with (IEEE 1364-2005, 3.7, 3.7.2).
 pub fn word_at(text: &[u8]) -> Piece
@@ -18,7 +16,7 @@ pub fn word_at(text: &[u8]) -> Piece
     if is_construct(&text[..count]) {
         return Piece::Token(TokenKind::Outside, count);
     }
-    if count > LONGEST_NAME {
+    if count > NAME_BYTES {
         return Piece::Refused(Flaw::NameLength(count as u64));
     }
     Piece::Token(TokenKind::Ident, count)
@@ -44,7 +42,7 @@ fn escaped_with(name: usize, ends: bool) -> Piece
     if !ends {
         return Piece::Refused(Flaw::BadByte);
     }
-    if name > LONGEST_NAME {
+    if name > NAME_BYTES {
         return Piece::Refused(Flaw::NameLength(name as u64));
     }
     Piece::Token(TokenKind::Escaped, name + 1)

@@ -1,6 +1,6 @@
 use Rattle.std.proofs.Common.{◌≡◌, ◌-◌, ◌≤◌, List, length, take}
 use Rattle.vlog_lex.specs.declared.token.Token.{Token}
-use Rattle.vlog_lex.specs.Cutting.{place_behind}
+use Rattle.ila_base.specs.Places.{place_behind}
 use Rattle.vlog_lex.proofs.SettleLaws.{open_last}
 use Rattle.vlog_lex.proofs.StepLaws.{Rests}
 use Rattle.vlog_lex.proofs.cutting.cut.Given as goal

@@ -1,0 +1,12 @@
+pub mod Outcomes
+pub mod TokenLaws
+pub mod SequenceLaws
+pub mod ChoiceLaws
+pub mod BoundLaws
+pub mod RepeatLaws
+pub mod ListLaws
+pub mod NestLaws
+pub mod SortLaws
+pub mod LoopLaws
+pub mod YieldLaws
+pub mod FaultLaws

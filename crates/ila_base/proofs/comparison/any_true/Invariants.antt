@@ -1,0 +1,7 @@
+use Rattle.std.proofs.Common.{◌≡◌, drop}
+use Rattle.std.specs.List.{list_any}
+use Rattle.ila_base.specs.Comparison.{is_true}
+use Rattle.ila_base.proofs.comparison.any_true.Given as goal
+
+abbrev pub invariant-loop-compare : goal.invariant-loop-compare
+invariant-loop-compare l = list_any (is_true l.before l.now) (drop l.compare-index l.compares) ≡ list_any (is_true l.before l.now) l.compares

@@ -1,6 +1,0 @@
-use Rattle.std.proofs.Common.{◌≡◌, length}
-use Rattle.net_levels.specs.Drivers.{AreDrivers}
-use Rattle.net_levels.proofs.drivers.drivers.Given as goal
-
-abbrev pub invariant-loop-number : goal.invariant-loop-number
-invariant-loop-number l = record { size : length l.table.items ≡ l.fn.count; named : AreDrivers l.cells l.number l.table.items }

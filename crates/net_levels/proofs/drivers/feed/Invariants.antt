@@ -1,5 +1,0 @@
-use Rattle.net_levels.specs.Drivers.{NamesOutputs}
-use Rattle.net_levels.proofs.drivers.feed.Given as goal
-
-abbrev pub invariant-loop-pin : goal.invariant-loop-pin
-invariant-loop-pin l = NamesOutputs l.outs l.cell l.pin l.initial.table.items l.table.items
