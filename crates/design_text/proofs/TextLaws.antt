@@ -5,7 +5,6 @@ use Rattle.std.specs.List.{flat_map, range_with_len}
 use Rattle.std.specs.Option.{option_map_or}
 use Rattle.net_core.specs.declared.parts.Port.{Port}
 use Rattle.net_core.specs.Netlist.{Netlist}
-use Rattle.net_core.specs.Run.{History}
 use Rattle.net_core.specs.WellFormed.{IsFlat}
 use Rattle.vlog_parse.specs.declared.tree.Module.{Module}
 use Rattle.vlog_parse.specs.declared.tree.Range.{Range}
@@ -13,11 +12,11 @@ use Rattle.vlog_parse.specs.ReadTree.{In}
 use Rattle.vlog_check.specs.Scope.{range_of, direction_of, is_output}
 use Rattle.stim_read.specs.Ports.{port_name}
 use Rattle.elab_design.specs.Design.{Bit, bit_of, indices, net_bits, Design, IsTop, at_top, IsNetBit}
-use Rattle.elab_design.specs.DesignRuns.{DesignHistory}
 use Rattle.elab_design.specs.Raw.{flat_port}
 use Rattle.elab_design.specs.Elaborates.{Elaborates, HasFlatPort}
-use Rattle.ila_session.specs.Outputs.{hex_word, line_of, word_at, output_ports, header_line, clock_line, clock_lines, outputs_text}
-use Rattle.design_text.specs.DesignText.{output_names, design_word, design_line, design_text}
+use Rattle.ila_session.specs.Outputs.{hex_word, line_of, word_at, output_ports, header_line, clock_line, outputs_of}
+use Rattle.ila_session.specs.RunText.{RunText, text_of, AppendsClocksFront}
+use Rattle.design_text.specs.DesignText.{output_names, design_word, design_line, outputs_of_top, IsTextOf}
 use Rattle.design_text.proofs.PickLaws.{picked}
 use Rattle.design_text.proofs.InputLaws.{name_is, nets_are}
 
@@ -82,8 +81,21 @@ module _ (d : Design) (net : Netlist) (own : Elaborates d net) (flat : IsFlat ne
       ap (λ ns. hex_word (map one ns)) (nets_are d net own flat ports k name at)
       ∙ ap hex_word (numbered_map own.number one other (net_bits top [] name) (λ b there. carried b (top_bit d top own.order.is_top name b there)))))
 
-  pub text_is : (g : History) (h : DesignHistory) → ((t : ℕ) (b : Bit) → IsNetBit d b → g.bit t (own.number b) ≡ h.bit t b) → (clocks : ℕ)
-      → outputs_text net g clocks ≡ design_text top h clocks
-  text_is g h carried clocks =
-      ap (λ xs. xs ++ clock_lines net g clocks) header_is
-      ∙ ap (λ xs. line_of (output_names top) ++ xs) (lines_same (λ t. clock_line net (g.bit t)) (λ t. design_line top (h.bit t)) (range_with_len 0 clocks) (λ t. line_is (g.bit t) (h.bit t) (carried t)))
+  -- the outputs text of the netlist is that of the design
+  pub outputs_are : IsTextOf d own.number (outputs_of net) (outputs_of_top top)
+  outputs_are = record { head = header_is; clock = λ g h carried t. line_is (g t) (h t) (carried t) }
+
+-- A text of the netlist's run is that of the design's.
+pub text_is : (d : Design) (number : Bit → ℕ) (text : RunText ℕ) (own : RunText Bit) → IsTextOf d number text own → (g : ℕ → ℕ → Bool) (h : ℕ → Bit → Bool)
+    → ((t : ℕ) (b : Bit) → IsNetBit d b → g t (number b) ≡ h t b) → (clocks : ℕ) → text_of text g clocks ≡ text_of own h clocks
+text_is d number text own same g h carried clocks =
+    ap (λ xs. xs ++ flat_map (text.clock g) (range_with_len 0 clocks)) same.head
+    ∙ ap (λ xs. own.head ++ xs) (lines_same (text.clock g) (own.clock h) (range_with_len 0 clocks) (same.clock g h carried))
+
+-- so for a front of it
+pub front_is : (d : Design) (number : Bit → ℕ) (text : RunText ℕ) (own : RunText Bit) → IsTextOf d number text own → (g : ℕ → ℕ → Bool) (h : ℕ → Bit → Bool)
+    → ((t : ℕ) (b : Bit) → IsNetBit d b → g t (number b) ≡ h t b) → (clocks : ℕ) (old new : Option (List ℕ)) → AppendsClocksFront (text_of text g) clocks old new
+    → AppendsClocksFront (text_of own h) clocks old new
+front_is d number text own same g h carried clocks old new front =
+    let each : text_of text g ≡ text_of own h = λ i n. text_is d number text own same g h carried n i in
+    subst (λ f. AppendsClocksFront f clocks old new) each front

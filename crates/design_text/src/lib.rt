@@ -4,4 +4,4 @@
 
 mod laws;
 
-pub use laws::{inputs_agree, shows_design};
+pub use laws::{inputs_agree, shows_design, shows_text};

@@ -1,6 +1,6 @@
 -- A line that is filled byte by byte.
-use Rattle.std.proofs.Common.{◌≡◌, ℕ, ◌+◌, ◌<◌, ◌≤◌, List, [], ◌∷◌, ◌++◌, map, length, get_or, take, set, sym, ◌∙◌, ap, arith}
-use Rattle.std.proofs.lemmas.List.{take_more, take_more_set, map-append}
+use Rattle.std.proofs.Common.{◌≡◌, ℕ, ◌+◌, ◌<◌, ◌≤◌, List, [], ◌∷◌, ◌++◌, map, length, get_or, take, drop, set, sym, ◌∙◌, ap, arith}
+use Rattle.std.proofs.lemmas.List.{take_at, take_more, take_more_set, map-append}
 use Rattle.std.proofs.Math.Seq.{take-length}
 
 -- one more byte
@@ -18,3 +18,7 @@ filled_all f xs line i most least long done =
     let end : i ≡ length xs = omega arith in
     let ends : i ≡ length line = omega arith in
     sym (take-length line) ∙ (ap (λ n. take n line) (sym ends) ∙ (done ∙ (ap (λ n. map f (take n xs)) end ∙ ap (map f) (take-length xs))))
+
+-- what a filled slice gives back
+pub filled_back : (new old : List ℕ) (count : ℕ) → length new ≡ count → take count (new ++ drop (length new) old) ≡ new
+filled_back new old count long = take_at new (drop (length new) old) count long

@@ -1,3 +1,4 @@
+pub mod RunText
 pub mod Outputs
 pub mod Pieces
 pub mod Shown

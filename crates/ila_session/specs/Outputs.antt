@@ -4,6 +4,7 @@ use Rattle.std.specs.List.{flat_map, join_with_byte, range_with_len}
 use Rattle.net_core.specs.declared.parts.Port.{Port}
 use Rattle.net_core.specs.Netlist.{Netlist, port_nets}
 use Rattle.net_core.specs.Run.{History}
+use Rattle.ila_session.specs.RunText.{RunText, text_of}
 use Rattle.stim_read.specs.Ports.{port_name}
 use Rattle.stim_read.specs.Stimulus.{space, digits_of, padding_of}
 use Rattle.stim_read.specs.Streams.{newline}
@@ -51,8 +52,12 @@ clock_line net bit = line_of (map (word_at net bit) (output_ports net))
 abbrev pub clock_lines : Netlist → History → ℕ → List ℕ
 clock_lines net history clocks = flat_map (λ t. clock_line net (history.bit t)) (range_with_len 0 clocks)
 
+-- the outputs text as a text of a run
+abbrev pub outputs_of : Netlist → RunText ℕ
+outputs_of net = record { head = header_line net; clock = λ bit t. clock_line net (bit t) }
+
 abbrev pub outputs_text : Netlist → History → ℕ → List ℕ
-outputs_text net history clocks = header_line net ++ clock_lines net history clocks
+outputs_text net history = text_of (outputs_of net) history.bit
 
 -- what stands before one more word of a line: a space, if it isn't the first
 abbrev pub space_before : ℕ → List ℕ

@@ -36,7 +36,8 @@ fn name_of<'a>(flat: &'a Flat, port: Port) -> &'a [u8]
 // there are then.
 fn push_name(line: &mut Vec<u8>, words: usize, flat: &Flat, port: Port) -> Result<usize, NoMemory>
     requires { words + 1 < 2 ^ 64 }
-    ensures line { OnOk result (line.new.items ≡ line.old.items ++ (if port.output then space_before words ++ port_name flat.now port else [])) }
+    ensures line { OnOk result (line.new.items ≡ line.old.items
+        ++ (if port.output then space_before words ++ port_name flat.now port else [])) }
     ensures words { IfOk result (λ n. n ≡ (if port.output then words + 1 else words)) }
 {
     if !port.output {
@@ -81,8 +82,11 @@ fn push_digits(
     port: Port,
 ) -> Result<usize, NoMemory>
     requires { words + 1 < 2 ^ 64 }
-    ensures text { OnOk result ((bit : ℕ → Bool) → map (piece_byte bit) pieces.new.items ≡ map (piece_byte bit) pieces.old.items ++ (if port.output then space_before words ++ word_at flat.now bit port else [])) }
-    ensures nets { IsFlat flat.now → OnOk result (All (HasDataNets flat.now) pieces.old.items → IsPort flat.now port → All (HasDataNets flat.now) pieces.new.items) }
+    ensures text { OnOk result ((bit : ℕ → Bool)
+        → map (piece_byte bit) pieces.new.items ≡ map (piece_byte bit) pieces.old.items
+        ++ (if port.output then space_before words ++ word_at flat.now bit port else [])) }
+    ensures nets { IsFlat flat.now → OnOk result (All (HasDataNets flat.now) pieces.old.items
+        → IsPort flat.now port → All (HasDataNets flat.now) pieces.new.items) }
     ensures words { IfOk result (λ n. n ≡ (if port.output then words + 1 else words)) }
 {
     if !port.output {
@@ -95,7 +99,8 @@ fn push_digits(
 
 /// The pieces of the line of a clock.
 pub fn line_pieces(alloc: Global, flat: &Flat) -> Result<Vec<Piece>, NoMemory>
-    ensures text { IfOk result (λ pieces. (bit : ℕ → Bool) → map (piece_byte bit) pieces.items ≡ clock_line flat.now bit) }
+    ensures text { IfOk result (λ pieces. (bit : ℕ → Bool)
+        → map (piece_byte bit) pieces.items ≡ clock_line flat.now bit) }
     ensures nets { IfOk result (λ pieces. All (HasDataNets flat.now) pieces.items) }
 {
     let mut pieces = Vec::new(alloc);

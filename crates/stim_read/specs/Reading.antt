@@ -1,6 +1,7 @@
 -- A reader of a stimulus between two rows, and what it takes and refuses.
 use Rattle.std.specs.Prelude.{◌≡◌, ℕ, ◌+◌, ◌<◌, Bool, false, List, ◌∷◌, length, replicate, sum, ⊤, Option, Some, None}
 use Rattle.std.specs.Str.Lines.{lines}
+use Rattle.ila_base.specs.declared.limits.TheConstants.{LAST_ROW}
 use Rattle.ila_base.specs.declared.refusal.StimRefusal.{StimRefusal}
 use Rattle.ila_base.specs.declared.refusal.StimRefusal.TheVariants.{Header, Line, Limit}
 use Rattle.stim_read.specs.declared.inputs.DataInput.{DataInput}
@@ -26,7 +27,7 @@ rest reading left = rest_of reading.unused reading.ended left
 
 -- the greatest number of rows
 abbrev pub most_rows : ℕ
-most_rows = 4294967295
+most_rows = LAST_ROW
 
 -- a line stands for some row
 abbrev pub IsSomeRow : List Field → ℕ → List ℕ → Type 0

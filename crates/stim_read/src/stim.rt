@@ -19,6 +19,7 @@ use crate::layout::{fields_in_order, room};
 use crate::line_reader::{LineEnd, LineReader};
 use crate::ports::data_inputs;
 use crate::row::read_row;
+use ila_base::limits::LAST_ROW;
 use ila_base::{NoMemory, Source, StimRefusal};
 use net_core::Flat;
 use std::alloc::Global;
@@ -56,10 +57,11 @@ impl Model for Stim {
 fn refusal_of(taken: u32) -> StimRefusal
     ensures { RefusesLine taken ⊥ result }
 {
-    if taken == u32::MAX {
-        return StimRefusal::Limit(u64::from(taken));
+    let rows = u64::from(taken);
+    if rows == LAST_ROW {
+        return StimRefusal::Limit(LAST_ROW);
     }
-    StimRefusal::Line(u64::from(taken) + 2)
+    StimRefusal::Line(rows + 2)
 }
 
 // Puts the bits of the row that a line stands for into the slice, behind so many rows.
@@ -72,11 +74,12 @@ fn take_row(taken: u32, fields: &[Field], line: &[u8], bits: &mut [bool]) -> Res
         → RefusesLine taken (IsSomeRow fields.now (length bits.old) line.now) why }
     ensures long { length bits.new ≡ length bits.old }
 {
-    if taken == u32::MAX {
-        return Err(StimRefusal::Limit(u64::from(taken)));
+    let rows = u64::from(taken);
+    if rows == LAST_ROW {
+        return Err(StimRefusal::Limit(LAST_ROW));
     }
     if !read_row(fields, line, bits) {
-        return Err(StimRefusal::Line(u64::from(taken) + 2));
+        return Err(StimRefusal::Line(rows + 2));
     }
     Ok(())
 }

@@ -1,29 +1,14 @@
-use Rattle.std.proofs.Common.{length, subst}
-use Rattle.std.specs.Io.KnownBytes.{Appends}
-use Rattle.ila_base.specs.Faults.{AppendsFront}
-use Rattle.design_text.proofs.TextLaws.{text_is}
+use Rattle.ila_session.specs.Outputs.{outputs_of}
+use Rattle.design_text.specs.DesignText.{outputs_of_top}
+use Rattle.design_text.proofs.TextLaws.{outputs_are}
 use Rattle.design_text.proofs.laws.shows_design.Goals as goal
 
 pub returns-clause-whole : goal.returns-clause-whole
 returns-clause-whole c = λ d net checked flat own rows g one old new shows.
-    let back = c.one_run_carried.ensures d net checked flat own rows g one in
-    record {
-      top = own.order.top;
-      is_top = own.order.is_top;
-      history = back.0;
-      one = back.2;
-      text = subst (Appends old new) (text_is d net own flat (λ k name at. c.ports_of_flat.ensures.ports d net own checked flat k name at) g back.0
-          (λ t b is. c.bits_carried.ensures d net own back.0 g back.1 t b is) (length rows)) (shows g one.run);
-    }
+    c.shows_text.ensures.whole d net own (outputs_of net) outputs_of_top checked flat
+    (outputs_are d net own flat (λ k name at. c.ports_of_flat.ensures.ports d net own checked flat k name at)) rows g one old new shows
 
 pub returns-clause-front : goal.returns-clause-front
 returns-clause-front c = λ d net checked flat own rows g one old new shows.
-    let back = c.one_run_carried.ensures d net checked flat own rows g one in
-    record {
-      top = own.order.top;
-      is_top = own.order.is_top;
-      history = back.0;
-      one = back.2;
-      text = subst (AppendsFront old new) (text_is d net own flat (λ k name at. c.ports_of_flat.ensures.ports d net own checked flat k name at) g back.0
-          (λ t b is. c.bits_carried.ensures d net own back.0 g back.1 t b is) (length rows)) (shows g one.run);
-    }
+    c.shows_text.ensures.front d net own (outputs_of net) outputs_of_top checked flat
+    (outputs_are d net own flat (λ k name at. c.ports_of_flat.ensures.ports d net own checked flat k name at)) rows g one old new shows

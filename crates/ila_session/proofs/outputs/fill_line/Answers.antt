@@ -1,6 +1,6 @@
 use Rattle.ila_session.specs.Pieces.{piece_byte}
 use Rattle.ila_session.proofs.Filling.{filled_all}
-use Rattle.ila_session.proofs.session.fill_line.Goals as goal
+use Rattle.ila_session.proofs.outputs.fill_line.Goals as goal
 
 pub returns : goal.returns
 returns g c =

@@ -1,6 +1,6 @@
 use Rattle.std.proofs.Common.{◌≡◌, map, length, take}
 use Rattle.ila_session.specs.Pieces.{piece_byte}
-use Rattle.ila_session.proofs.session.fill_line.Given as goal
+use Rattle.ila_session.proofs.outputs.fill_line.Given as goal
 
 abbrev pub invariant-loop-at : goal.invariant-loop-at
 invariant-loop-at g l = record {
