@@ -6,7 +6,8 @@ use Rattle.net_core.specs.WellFormed.{IsFlat}
 use Rattle.net_core.specs.Cycle.{Feeds, IsCycle, IsRanked, HasCycle}
 use Rattle.net_graph.specs.Graph as graph
 use Rattle.net_levels.specs.Laws.{ranked_has_no_cycle}
-use Rattle.net_levels.specs.Levels.{AreLevels, BeginsLeast, HasOneRun}
+use Rattle.net_graph.specs.Lists.{BeginsLeast}
+use Rattle.net_levels.specs.Levels.{AreLevels, HasOneRun}
 use Rattle.net_levels.proofs.SettleLemmas.{one_run}
 
 module _ (net : Netlist) (leads : ℕ → ℕ → Type 0) (edges : (m n : ℕ) → leads m n ↔ Feeds net m n) where
@@ -34,7 +35,7 @@ module _ (net : Netlist) (leads : ℕ → ℕ → Type 0) (edges : (m n : ℕ) �
     first = λ i m n last here there. (edges m n).0 (cycle.first i m n last here there);
   }
 
-  pub fault_from : (nets : List NetId) (nodes : List ℕ) → numbers nets ≡ nodes → graph.IsCycle leads nodes × graph.BeginsLeast nodes
+  pub fault_from : (nets : List NetId) (nodes : List ℕ) → numbers nets ≡ nodes → graph.IsCycle leads nodes × BeginsLeast nodes
       → IsCycle net (numbers nets) × BeginsLeast (numbers nets)
   fault_from nets nodes same order =
       (subst (λ (xs : List ℕ). IsCycle net xs) (sym same) (cycle_net nodes order.0), subst (λ (xs : List ℕ). BeginsLeast xs) (sym same) order.1)

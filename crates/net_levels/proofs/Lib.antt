@@ -1,4 +1,3 @@
-pub mod DriverLemmas
 pub mod SourceLemmas
 pub mod SettleLemmas
 pub mod LevelLemmas

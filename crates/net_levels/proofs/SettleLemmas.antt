@@ -130,7 +130,7 @@ module _ (net : Netlist) (flat : IsFlat net) (rank : ℕ → ℕ) (ranked : IsRa
     pub settles : length row ≡ length (input_nets net) → IsSettled net row settled_bit content
     settles size = record {
       inputs = same_list (map settled_bit (input_nets net)) row (length-map (input_nets net) settled_bit ∙ sym size) each;
-      outputs = output_bit;
+      outputs = λ c cell at k n on is. output_bit c cell k n (record { at = at; on = on }) is;
     }
       where
         each : (i : ℕ) (x y : Bool) → slice_get (map settled_bit (input_nets net)) i ≡ Some x → slice_get row i ≡ Some y → x ≡ y
@@ -146,10 +146,10 @@ module _ (net : Netlist) (flat : IsFlat net) (rank : ℕ → ℕ) (ranked : IsRa
   stored_first c i = option_map_or (λ (cell : Cell). initial cell.kind i) (slice_get net.cells c) false
 
   next_is : (bit : ℕ → Bool) (content : ℕ → ℕ → Bool) → IsNext net bit content (stored_next bit content)
-  next_is bit content c cell i at within = ap (λ o. option_map_or (λ (cell : Cell). next_content cell.kind (input_pins bit cell) (content c) i) o false) at
+  next_is bit content c cell at i within = ap (λ o. option_map_or (λ (cell : Cell). next_content cell.kind (input_pins bit cell) (content c) i) o false) at
 
   first_is : IsStart net stored_first
-  first_is c cell i at within = ap (λ o. option_map_or (λ (cell : Cell). initial cell.kind i) o false) at
+  first_is c cell at i within = ap (λ o. option_map_or (λ (cell : Cell). initial cell.kind i) o false) at
 
   -- bits and stored bits that stand for the first rows
   stands_for : (rows : List (List Bool)) → Each (IsRowOf net) rows → (k : ℕ) → k ≤ length rows → (bit : ℕ → Bool) × (content : ℕ → ℕ → Bool) × StandsFor net bit content (take k rows)

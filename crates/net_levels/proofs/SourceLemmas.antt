@@ -13,8 +13,9 @@ use Rattle.net_core.specs.Cycle.{Feeds}
 use Rattle.net_core.proofs.ListLemmas.{slice_get_append, slice_get_left, slice_get_right}
 use Rattle.net_core.proofs.RunLemmas.{reads_data}
 use Rattle.net_graph.specs.Rows.{RowHas, AreRows}
-use Rattle.net_levels.specs.declared.drivers.Output.{Output}
-use Rattle.net_levels.specs.Drivers.{IsNeeded, Adds, HasOutput, AreDrivers}
+use Rattle.net_core.specs.declared.drivers.Output.{Output}
+use Rattle.net_core.specs.Drivers.{HasOutput, AreDrivers}
+use Rattle.net_levels.specs.Needs.{IsNeeded, Adds}
 
 -- what holds where a call went well, said otherwise
 pub on_ok_as : {T E : Type 0} (r : Result T E) (P Q : Type 0) → (P → Q) → OnOk r P → OnOk r Q

@@ -1,8 +1,8 @@
 -- Level numbers: they rise along combinational dependence, and a netlist that has them has exactly one run over every list of
 -- rows. Where there are none, there is a combinational cycle.
-use Rattle.std.specs.Prelude.{◌≡◌, ℕ, ◌≤◌, Bool, List, length, slice_get, slice_index, Some, ⊤}
+use Rattle.std.specs.Prelude.{◌≡◌, ℕ, Bool, List, length, slice_index, ⊤}
 use Rattle.net_core.specs.Netlist.{Netlist, numbers, net_count, input_nets}
-use Rattle.net_core.specs.WellFormed.{Each}
+use Rattle.net_graph.specs.Lists.{Each, BeginsLeast}
 use Rattle.net_core.specs.Run.{History, IsOneRun}
 use Rattle.net_core.specs.Cycle.{IsCycle, IsRanked}
 use Rattle.net_levels.specs.declared.types.LevelFault.{LevelFault}
@@ -20,10 +20,6 @@ HasOneRun net = (rows : List (List Bool)) → Each (IsRowOf net) rows → (histo
 pub record AreLevels (net : Netlist) (levels : List ℕ) : Type 0 where
   pub size : length levels ≡ net_count net.groups
   pub ranked : IsRanked net (slice_index levels)
-
--- none is less than the first
-abbrev pub BeginsLeast : List ℕ → Type 0
-BeginsLeast nets = (i m n : ℕ) → slice_get nets 0 ≡ Some m → slice_get nets i ≡ Some n → m ≤ n
 
 -- the nets are a combinational cycle that begins with its least net
 abbrev pub IsFaultOf : Netlist → LevelFault → Type 0

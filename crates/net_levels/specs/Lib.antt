@@ -1,3 +1,3 @@
-pub mod Drivers
+pub mod Needs
 pub mod Levels
 pub mod Laws

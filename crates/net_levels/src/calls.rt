@@ -1,24 +1,15 @@
 //! The level numbers of a netlist.
-ghost use Rattle.std.specs.Prelude.{◌≡◌, ◌<◌, ◌^◌, IfOk, IfErr, OnOk};
-ghost use Rattle.net_core.specs.Netlist.{net_count, numbers};
+ghost use Rattle.std.specs.Prelude.{◌≡◌, IfOk, IfErr, OnOk};
+ghost use Rattle.net_core.specs.Netlist.{numbers};
 ghost use Rattle.net_core.specs.Cycle.{HasCycle};
 ghost use Rattle.net_levels.specs.Levels.{AreLevels, HasOneRun, IsFaultOf};
 
-use crate::drivers::drivers;
 use crate::sources::graph_of;
 use crate::types::{LevelFault, Levels};
 use ila_base::{Items, NoMemory};
-use net_core::{Flat, Group, NetId};
+use net_core::{Flat, NetId, driver_table};
 use net_graph::{Order, ranks};
 use std::alloc::Global;
-
-// How many net bits the groups have.
-fn count_nets(groups: &[Group]) -> usize
-    requires { net_count groups.now < 2 ^ 32 }
-    ensures { result ≡ net_count groups.now }
-{
-    groups.iter().map(|group| group.bits.len()).sum()
-}
 
 // The nets with these numbers.
 fn nets_of(alloc: Global, nodes: &[u32]) -> Result<Items<NetId>, NoMemory>
@@ -41,8 +32,7 @@ pub fn levels(alloc: Global, flat: &Flat) -> Result<Levels, LevelFault>
     ensures one_run { OnOk result (HasOneRun flat.now) }
     ensures fault { IfErr result (IsFaultOf flat.now) }
 {
-    let count = count_nets(flat.groups());
-    let table = drivers(alloc, count, flat.cells())?;
+    let table = driver_table(alloc, flat.net_count(), flat.cells())?;
     let graph = graph_of(alloc, flat, table.as_slice())?;
     match ranks(alloc, &graph)? {
         Order::Ranked(numbers) => Ok(Levels::from_numbers(numbers)),

@@ -4,6 +4,5 @@
 
 pub mod calls;
 mod depends;
-mod drivers;
 mod sources;
 pub mod types;

@@ -5,12 +5,12 @@ ghost use Rattle.net_core.specs.Netlist.{net_count};
 ghost use Rattle.net_core.specs.WellFormed.{IsFlat};
 ghost use Rattle.net_core.specs.Cycle.{Feeds};
 ghost use Rattle.net_graph.specs.Graph.{Leads, node_count};
-ghost use Rattle.net_levels.specs.Drivers.{IsNeeded, Adds, AreDrivers};
+ghost use Rattle.net_core.specs.Drivers.{AreDrivers};
+ghost use Rattle.net_levels.specs.Needs.{IsNeeded, Adds};
 
 use crate::depends::depends;
-use crate::drivers::Output;
 use ila_base::NoMemory;
-use net_core::{Cell, Flat, NetId, Pin};
+use net_core::{Cell, Flat, NetId, Output, Pin};
 use net_graph::Graph;
 use std::alloc::Global;
 

@@ -16,7 +16,7 @@ returns-in-Ranked-clause-no_cycle c =
 pub returns-in-Ranked-clause-one_run : goal.returns-in-Ranked-clause-one_run
 returns-in-Ranked-clause-one_run c =
     let order = rw c.in-Ranked.is at c.in_ok-numbers.ensures in
-    one_run_from c.args.flat.now (Leads c.in_ok-graph.graph) c.in_ok-graph.ensures.edges c.groups.ensures.kept c.in-Ranked.numbers.items order.1
+    one_run_from c.args.flat.now (Leads c.in_ok-graph.graph) c.in_ok-graph.ensures.edges c.cells.ensures.kept c.in-Ranked.numbers.items order.1
 
 pub returns-clause-fault : goal.returns-clause-fault
 returns-clause-fault c =

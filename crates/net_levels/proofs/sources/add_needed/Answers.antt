@@ -1,5 +1,5 @@
 use Rattle.std.proofs.Common.{◌+◌, List, ℕ, ap, sym, ◌∙◌, subst}
-use Rattle.net_levels.specs.Drivers.{Adds, IsNeeded}
+use Rattle.net_levels.specs.Needs.{Adds, IsNeeded}
 use Rattle.net_levels.proofs.SourceLemmas.{adds_one, adds_skip}
 use Rattle.net_levels.proofs.sources.add_needed.Goals as goal
 use Rattle.net_levels.proofs.sources.add_needed.Goals.{in-Some+in_ok-push-in-Some, in-None}

@@ -1,4 +1,4 @@
-use Rattle.net_levels.specs.Drivers.{Adds, IsNeeded}
+use Rattle.net_levels.specs.Needs.{Adds, IsNeeded}
 use Rattle.net_levels.proofs.sources.add_needed.Given as goal
 
 abbrev pub invariant-loop-input : goal.invariant-loop-input

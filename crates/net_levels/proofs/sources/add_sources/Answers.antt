@@ -2,7 +2,7 @@ use Rattle.std.proofs.Common.{◌≡◌, List, length, slice_get, Some, None, re
 use Rattle.std.proofs.lemmas.Option.{slice_get-get_or, slice_get_read, slice_get_within}
 use Rattle.net_core.specs.Cycle.{Feeds}
 use Rattle.net_core.specs.declared.parts.Cell.{Cell}
-use Rattle.net_levels.specs.Drivers.{IsNeeded}
+use Rattle.net_levels.specs.Needs.{IsNeeded}
 use Rattle.net_levels.proofs.SourceLemmas.{on_ok_as, adds_as, adds_nothing, needed_feeds, undriven_needs_nothing}
 use Rattle.net_levels.proofs.sources.add_sources.Goals as goal
 
