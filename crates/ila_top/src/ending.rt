@@ -1,18 +1,29 @@
-ghost use Rattle.std.specs.Prelude.{◌≡◌, ◌≤◌, []};
+ghost use Rattle.std.specs.Prelude.{◌≡◌, ◌≤◌};
 ghost use Rattle.ila_top.specs.Answers.{IsReported, exit_code_of};
+ghost use Rattle.ila_top.specs.Stage as stage;
 
 use crate::line::write_error;
-use crate::status::Status;
+use crate::status::{Ended, Status};
 use ila_base::Sink;
 
-/// Writes the error line of a status that speaks of no core, and gives the status back. A fault of
-/// the sink changes no status.
-pub fn report<E: Sink>(errors: &mut E, status: Status) -> Status
-    ensures same { result ≡ status }
-    ensures line { IsReported (E.written errors.old) (E.written errors.new) (E.faults errors.old) (E.faults errors.new) status [] }
+/// An ending that speaks of no core.
+pub fn plain(status: Status) -> Ended
+    ensures { result ≡ stage.plain status }
+{
+    Ended { status, core: None }
+}
+
+/// Writes the error line of an ending, and gives its status. A fault of the sink changes no status.
+pub fn report<E: Sink>(errors: &mut E, ended: Ended) -> Status
+    ensures same { result ≡ ended.status }
+    ensures line { IsReported (E.written errors.old) (E.written errors.new) (E.faults errors.old) (E.faults errors.new) ended }
     ensures later { E.faults errors.old ≤ E.faults errors.new }
 {
-    let _ = write_error(errors, &status, b"");
+    let Ended { status, core } = ended;
+    let _ = match &core {
+        Some(name) => write_error(errors, &status, name.bytes()),
+        None => write_error(errors, &status, b""),
+    };
     status
 }
 

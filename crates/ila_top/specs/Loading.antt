@@ -1,0 +1,42 @@
+-- The loading of a file: its greatest length, and how a longer one is refused.
+use Rattle.std.specs.Prelude.{◌≡◌, ℕ, ◌+◌, ◌≤◌, ◌⊎◌, List, [], length, Some}
+use Rattle.ila_base.specs.declared.place.Place.{Place}
+use Rattle.ila_base.specs.declared.refusal.LimitKind.TheVariants.{FileBytes}
+use Rattle.ila_base.specs.declared.refusal.NetRefusal.TheVariants as net
+use Rattle.ila_base.specs.declared.refusal.ProjRefusal.TheVariants as project
+use Rattle.ila_base.specs.declared.refusal.TsmRefusal.TheVariants as program
+use Rattle.ila_base.specs.declared.refusal.SetRefusal.TheVariants as settings
+use Rattle.ila_top.specs.declared.load.FileKind.{FileKind}
+use Rattle.ila_top.specs.declared.load.FileKind.TheVariants as kinds
+use Rattle.ila_top.specs.declared.status.Status.TheVariants.{Netlist, Project, Tsm, Settings, NoFile, NoMemory}
+use Rattle.ila_top.specs.declared.status.Ended.{Ended}
+use Rattle.ila_top.specs.Outside.{HoldsIfTold, LacksIfTold, LongerIfTold}
+use Rattle.ila_top.specs.Stage.{Stage, plain}
+
+-- no place
+abbrev pub nowhere : Place
+nowhere = record { line = 0; col = 0 }
+
+-- the greatest length of a file, in bytes
+abbrev pub most_bytes : FileKind → ℕ
+most_bytes kinds.Netlist = 67108864
+most_bytes _ = 1048576
+
+-- how the command ends where a file is longer
+abbrev pub too_long : FileKind → Ended
+too_long kinds.Netlist = plain (Netlist (net.Limit FileBytes 67108865) nowhere)
+too_long kinds.Project = plain (Project (project.BadValue []))
+too_long (kinds.Program core name) = record { status = Tsm core program.Syntax nowhere; core = Some name.now }
+too_long kinds.Settings = plain (Settings (settings.Form 0))
+
+-- The bytes of the file of this name. It is refused where there is none, or where it is longer than allowed.
+abbrev pub load : FileKind → List ℕ → Stage (List ℕ)
+load kind name = record {
+  gives = λ files bytes. HoldsIfTold files name bytes × (length bytes ≤ most_bytes kind);
+  refuses = λ files ended. ((ended ≡ plain (NoFile name)) × LacksIfTold files name)
+      ⊎ ((ended ≡ too_long kind) × LongerIfTold files name (most_bytes kind));
+}
+
+-- it ends so, or since memory wasn't found
+abbrev pub IsEndedAs : Ended → Ended → Type 0
+IsEndedAs wanted ended = (ended ≡ wanted) ⊎ (ended ≡ plain NoMemory)
