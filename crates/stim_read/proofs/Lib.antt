@@ -6,6 +6,7 @@ pub mod NumberLaws
 pub mod HeaderLaws
 pub mod Streams
 pub mod Whole
+pub mod Ahead
 pub mod Stand
 pub mod Rooms
 pub mod Answered

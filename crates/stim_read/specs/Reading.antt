@@ -5,13 +5,15 @@ use Rattle.ila_base.specs.declared.refusal.StimRefusal.{StimRefusal}
 use Rattle.ila_base.specs.declared.refusal.StimRefusal.TheVariants.{Header, Line, Limit}
 use Rattle.stim_read.specs.declared.inputs.DataInput.{DataInput}
 use Rattle.stim_read.specs.declared.inputs.Field.{Field}
-use Rattle.stim_read.specs.Stimulus.{names_of, widths_of, fields_of, IsHeader, IsRow}
+use Rattle.stim_read.specs.Stimulus.{names_of, widths_of, fields_of, longest_line, IsHeader, IsRow}
 use Rattle.stim_read.specs.Streams.{rest_of, TakesLine}
 
--- The fields in the header's order, the bytes that were read and not used yet, whether the end was
--- met, how many rows were taken, the refusal after one, and the bits of the row taken last.
+-- The fields in the header's order, how many bytes a line may have with a carriage return, the bytes
+-- that were read and not used yet, whether the end was met, how many rows were taken, the refusal after
+-- one, and the bits of the row taken last.
 pub record Reading : Type 0 where
   pub fields : List Field
+  pub most : ℕ
   pub unused : List ℕ
   pub ended : Bool
   pub taken : ℕ
@@ -64,6 +66,7 @@ pub record Begins (inputs : List DataInput) (text left : Option (List ℕ)) (rea
   pub first : TakesLine text line (rest reading left)
   pub named : IsHeader (names_of inputs) order line
   pub fields : reading.fields ≡ fields_of (widths_of inputs) order
+  pub most : reading.most ≡ longest_line inputs
   pub bits : reading.bits ≡ replicate (sum (widths_of inputs)) false
   pub taken : reading.taken ≡ 0
   pub refused : reading.refused ≡ None

@@ -1,6 +1,6 @@
 -- The text of a stimulus: a header line that names the inputs, and a line of hexadecimal words for
 -- each clock.
-use Rattle.std.specs.Prelude.{◌≡◌, ◌≢◌, ℕ, ◌+◌, ◌-◌, ◌*◌, ◌/◌, ◌%◌, ◌^◌, ◌<◌, ◌≤◌, ◌==◌, Bool, false, List, [], ◌∷◌, map, length, take, drop, sum, count_by, slice_index, get_or, replicate, All, ⊤}
+use Rattle.std.specs.Prelude.{◌≡◌, ◌≢◌, ℕ, ◌+◌, ◌-◌, ◌*◌, ◌/◌, ◌%◌, ◌^◌, ◌<◌, ◌≤◌, ◌==◌, Bool, false, List, [], ◌∷◌, map, length, take, drop, sum, sum_by, max, count_by, slice_index, get_or, replicate, All, ⊤}
 use Rattle.std.specs.Char.{digit_value}
 use Rattle.std.specs.List.{flat_map, join_with_byte}
 use Rattle.std.specs.Str.Lines.{lines}
@@ -77,6 +77,10 @@ pub record IsWord (width : ℕ) (word : List ℕ) : Type 0 where
 -- the value that a word stands for, the highest bit first
 abbrev pub value_of : ℕ → List ℕ → List Bool
 value_of width word = drop (padding_of width) (word_bits word)
+
+-- how many bytes a header or a row has at most, with a carriage return and without its newline
+abbrev pub longest_line : List DataInput → ℕ
+longest_line inputs = max (max (sum_by (λ input. length input.name + 1) inputs) (sum_by (λ input. digits_of input.width + 1) inputs)) 1
 
 -- the bits of a field in a row
 abbrev pub bits_at : Field → List Bool → List Bool

@@ -1,8 +1,9 @@
 -- The lines of a stream: what a reader has read and not used yet, what it still can read, and the
 -- first line of these bytes.
-use Rattle.std.specs.Prelude.{◌≡◌, ◌≢◌, ℕ, ◌+◌, ◌-◌, ◌<◌, Bool, true, false, List, [], ◌∷◌, ◌++◌, length, take, drop, All, ⊤, Option, Some, None}
+use Rattle.std.specs.Prelude.{◌≡◌, ◌≢◌, ℕ, ◌+◌, ◌-◌, ◌<◌, ◌≤◌, ◌⊎◌, Bool, true, false, List, [], ◌∷◌, ◌++◌, length, take, drop, All, ⊤, Option, Some, None}
 use Rattle.std.specs.Str.Lines.{lines}
 use Rattle.std.specs.Io.KnownBytes.{prepend_known, IsAtEnd}
+use Rattle.stim_read.specs.declared.line_reader.TheConstants.{PIECE}
 use Rattle.stim_read.specs.declared.line_reader.Found.{Found}
 use Rattle.stim_read.specs.declared.line_reader.Found.TheVariants.{Newline, Nothing, TooLong}
 
@@ -53,3 +54,19 @@ TakesLine (Some rest) line (Some new) = lines rest ≡ line ∷ lines new
 abbrev pub HasLongLine : ℕ → Option (List ℕ) → Type 0
 HasLongLine most None = ⊤
 HasLongLine most (Some rest) = (piece : List ℕ) × (more : List ℕ) × Unbroken piece × (rest ≡ piece ++ more) × (most < length piece)
+
+-- Bytes were read of a source behind those that were unused: only while these held no newline and were no more than a line may
+-- have, and then one piece more.
+pub record ReadsOn (most : ℕ) (unused bytes left : List ℕ) : Type 0 where
+  pub front : List ℕ
+  pub piece : List ℕ
+  pub cut : bytes ≡ front ++ (piece ++ left)
+  pub clean : Unbroken (unused ++ front)
+  pub short : length (unused ++ front) ≤ most
+  pub one : length piece ≤ PIECE
+
+-- Where the bytes are told, nothing was read of them, or no more than is needed to find the end of a line.
+abbrev pub ReadsAhead : ℕ → List ℕ → Option (List ℕ) → Option (List ℕ) → Type 0
+ReadsAhead most unused None left = ⊤
+ReadsAhead most unused (Some bytes) None = ⊥
+ReadsAhead most unused (Some bytes) (Some left) = (left ≡ bytes) ⊎ ReadsOn most unused bytes left

@@ -1,5 +1,5 @@
 ghost use Rattle.std.specs.Prelude.{◌≡◌, ℕ, ◌+◌, ◌<◌, ◌≤◌, length, get_or, sum, sum_by, All, IfOk};
-ghost use Rattle.stim_read.specs.Stimulus.{widths_of, digits_of, field_at, fields_of};
+ghost use Rattle.stim_read.specs.Stimulus.{widths_of, longest_line, field_at, fields_of};
 
 use crate::inputs::{DataInput, Field};
 use ila_base::NoMemory;
@@ -39,7 +39,7 @@ pub(crate) fn fields_in_order(
 
 /// Room for the bytes of any header and of any row of the inputs, with a carriage return.
 pub(crate) fn room(inputs: &[DataInput]) -> Result<usize, NoMemory>
-    ensures { IfOk result (λ room. (sum_by (λ input. length input.name + 1) inputs.now ≤ room) × (sum_by (λ input. digits_of input.width + 1) inputs.now ≤ room) × (1 ≤ room)) }
+    ensures { IfOk result (λ room. room ≡ longest_line inputs.now) }
 {
     let mut names: usize = 0;
     let mut words: usize = 0;

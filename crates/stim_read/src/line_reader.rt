@@ -1,16 +1,17 @@
 ghost use Rattle.std.specs.Prelude.{◌≡◌, ◌≢◌, ℕ, ◌+◌, ◌<◌, ◌≤◌, ◌⊎◌, true, false, [], ◌∷◌, ◌++◌, length, take, drop, slice_index, All, MatchOption, Ok, IfOk, OnErr, vec_len, vec_capacity};
-ghost use Rattle.std.specs.Io.KnownBytes.{Keeps, IsAtEnd, prepend_known};
+ghost use Rattle.std.specs.Io.KnownBytes.{Keeps, Consumes, IsAtEnd, prepend_known};
 ghost use Rattle.std.specs.Str.Lines.{strip_carriage_return};
 ghost use Rattle.ila_base.specs.Faults.{Rose};
 ghost use Rattle.stim_read.specs.declared.line_reader.Found.TheVariants as found;
 ghost use Rattle.stim_read.specs.declared.line_reader.LineEnd.TheVariants as got;
-ghost use Rattle.stim_read.specs.Streams.{newline, Unbroken, Finds, between, rest_of, TakesLine, HasLongLine, IsDrained};
+ghost use Rattle.stim_read.specs.declared.line_reader.TheConstants.{PIECE};
+ghost use Rattle.stim_read.specs.Streams.{newline, Unbroken, Finds, between, rest_of, TakesLine, HasLongLine, IsDrained, ReadsAhead};
 
 use ila_base::{Failed, NoMemory, Source};
 use std::alloc::Global;
 
-// How many bytes are read at once.
-const BUFFER: usize = 4096;
+/// How many bytes are read at once, at most.
+pub const PIECE: usize = 4096;
 
 // What a search for a newline found.
 #[derive(Clone, Copy)]
@@ -42,7 +43,7 @@ pub(crate) struct LineReader {
     ended: bool,
     ghost within: { (at ≤ end) × (end ≤ vec_len buffer) },
     ghost room: { (vec_len line ≤ most) × (most ≤ vec_capacity line) },
-    ghost size: { vec_len buffer ≡ 4096 },
+    ghost size: { vec_len buffer ≡ PIECE },
     ghost unbroken: { All (λ byte. byte ≢ 10) line.items },
     ghost drained: { ended ≡ true → at ≡ end },
 }
@@ -70,7 +71,7 @@ impl LineReader {
         ensures { IfOk result (λ reader. (reader.line.items ≡ []) × (reader.at ≡ 0) × (reader.end ≡ 0) × (reader.most ≡ most) × (reader.ended ≡ false)) }
     {
         Ok(LineReader {
-            buffer: vec![in alloc; 0; BUFFER]?,
+            buffer: vec![in alloc; 0; PIECE]?,
             at: 0,
             end: 0,
             line: Vec::with_capacity(alloc, most)?,
@@ -128,6 +129,7 @@ impl LineReader {
     fn fill<S: Source>(&mut self, source: &mut S) -> Result<bool, Failed>
         requires { self.old.at ≡ self.old.end }
         ensures rest { Keeps (rest_of [] self.old.ended (S.left source.old)) (rest_of (between self.new.buffer.items self.new.at self.new.end) self.new.ended (S.left source.new)) }
+        ensures taken { Consumes (S.left source.old) (S.left source.new) (between self.new.buffer.items self.new.at self.new.end) }
         ensures line { self.new.line.items ≡ self.old.line.items }
         ensures most { self.new.most ≡ self.old.most }
         ensures more { IfOk result (λ more. more ≡ true → self.new.at < self.new.end) }
@@ -170,6 +172,7 @@ impl LineReader {
         ensures rest { OnErr result (Keeps (prepend_known self.old.line.items (rest_of (between self.old.buffer.items self.old.at self.old.end) self.old.ended (S.left source.old))) (prepend_known self.new.line.items (rest_of (between self.new.buffer.items self.new.at self.new.end) self.new.ended (S.left source.new)))) }
         ensures stays { OnErr result ((self.new.at ≡ self.new.end) × (self.new.ended ≡ false)) }
         ensures most { self.new.most ≡ self.old.most }
+        ensures ahead { ReadsAhead self.old.most (self.old.line.items ++ between self.old.buffer.items self.old.at self.old.end) (S.left source.old) (S.left source.new) }
         ensures quiet { (Unbroken (between self.old.buffer.items self.old.at self.old.end) → ⊥) → source.new ≡ source.old }
         ensures ended { self.old.ended ≡ true → (source.new ≡ source.old) × (self.new.ended ≡ true) }
         ensures drained { IsDrained self.old.ended (S.left source.old) → IsDrained self.new.ended (S.left source.new) }

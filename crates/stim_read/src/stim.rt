@@ -7,10 +7,10 @@ ghost use Rattle.stim_read.specs.declared.faults.StimFault.TheVariants as fault;
 ghost use Rattle.stim_read.specs.declared.faults.StimStop.TheVariants as stop;
 ghost use Rattle.net_core.specs.Netlist.{input_nets};
 ghost use Rattle.stim_read.specs.Ports.{data_inputs};
-ghost use Rattle.stim_read.specs.Stimulus.{IsRow, AreNames, names_of};
+ghost use Rattle.stim_read.specs.Stimulus.{IsRow, AreNames, names_of, longest_line};
 ghost use Rattle.stim_read.specs.Words.{AllFit, AllApart};
 ghost use Rattle.stim_read.specs.Reading.{Reading, rest, most_rows, TakesRow, Refuses, RefusesLine, IsSomeRow, Begins, HasNoHeader};
-ghost use Rattle.stim_read.specs.Streams.{Unbroken, ReadsPart, IsDrained};
+ghost use Rattle.stim_read.specs.Streams.{Unbroken, ReadsPart, ReadsAhead, IsDrained};
 
 use crate::faults::{StimFault, StimStop};
 use crate::header::header;
@@ -47,7 +47,7 @@ impl Model for Stim {
 
     ghost Value = { Reading };
 
-    ghost view = { λ s. record { fields = s.fields.items; unused = s.lines.line.items ++ between s.lines.buffer.items s.lines.at s.lines.end; ended = s.lines.ended; taken = s.taken; refused = s.refused; bits = s.bits.items } };
+    ghost view = { λ s. record { fields = s.fields.items; most = s.lines.most; unused = s.lines.line.items ++ between s.lines.buffer.items s.lines.at s.lines.end; ended = s.lines.ended; taken = s.taken; refused = s.refused; bits = s.bits.items } };
 
     ghost invariant = { λ s. (length s.spare.items ≡ length s.bits.items) × AllFit s.fields.items (length s.bits.items) × AllApart s.fields.items × (sum_by (λ field. digits_of field.width + 1) s.fields.items ≤ s.lines.most) × (1 ≤ s.lines.most) };
 }
@@ -98,6 +98,7 @@ impl Stim {
         ensures begun { IfOk result (λ stim. Begins inputs.now (S.left source.old) (S.left source.new) stim) }
         ensures refused { (why : StimRefusal) → result ≡ Err (stop.Refused why) → (why ≡ refusal.Header) × HasNoHeader inputs.now (S.left source.old) }
         ensures fault { result ≡ Err stop.ReadFault → ReadsPart (S.left source.old) (S.left source.new) }
+        ensures ahead { ReadsAhead (longest_line inputs.now) [] (S.left source.old) (S.left source.new) }
         ensures cause { result ≡ Err stop.ReadFault → Rose (S.faults source.old) (S.faults source.new) }
         ensures drained { IfOk result (λ stim. IsDrained stim.ended (S.left source.new)) }
         ensures later { S.faults source.old ≤ S.faults source.new }
@@ -133,6 +134,7 @@ impl Stim {
         ensures size { IfOk result (λ stim. length stim.bits ≡ length (input_nets flat.now)) }
         ensures refused { (why : StimRefusal) → result ≡ Err (stop.Refused why) → (why ≡ refusal.Header) × HasNoHeader (data_inputs flat.now) (S.left source.old) }
         ensures fault { result ≡ Err stop.ReadFault → ReadsPart (S.left source.old) (S.left source.new) }
+        ensures ahead { ReadsAhead (longest_line (data_inputs flat.now)) [] (S.left source.old) (S.left source.new) }
         ensures cause { result ≡ Err stop.ReadFault → Rose (S.faults source.old) (S.faults source.new) }
         ensures drained { IfOk result (λ stim. IsDrained stim.ended (S.left source.new)) }
         ensures later { S.faults source.old ≤ S.faults source.new }
@@ -164,6 +166,8 @@ impl Stim {
         ensures open { (more : Bool) → result ≡ Ok more → self.new.refused ≡ None }
         ensures kept { (result ≢ Ok true) → (self.new.bits ≡ self.old.bits) × (self.new.taken ≡ self.old.taken) }
         ensures fields { (self.new.fields ≡ self.old.fields) × (length self.new.bits ≡ length self.old.bits) }
+        ensures ahead { ReadsAhead self.old.most self.old.unused (S.left source.old) (S.left source.new) }
+        ensures most { self.new.most ≡ self.old.most }
         ensures quiet { (Unbroken self.old.unused → ⊥) → source.new ≡ source.old }
         ensures ended { self.old.ended ≡ true → (source.new ≡ source.old) × (self.new.ended ≡ true) }
         ensures drained { IsDrained self.old.ended (S.left source.old) → IsDrained self.new.ended (S.left source.new) }

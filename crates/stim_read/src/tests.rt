@@ -84,17 +84,34 @@ fn a_cut_text(rt: HostRuntime) -> Result<(), Fail> {
     Ok(())
 }
 
+// A read that failed is not tried again in the same call: each of two failures is an answer.
+#[test]
+fn a_header_read_that_fails(rt: HostRuntime) -> Result<(), Fail> {
+    let alloc = rt.alloc();
+    let inputs = one_input(alloc, 8)?;
+    let fails = vec![in alloc; 0, 1]?;
+    let mut source = text(alloc, b"d\n00\n", 4, fails)?;
+    for _ in 0..2 {
+        let begun = Stim::over(alloc, &mut source, &inputs);
+        assert_eq!(rt; begun.err(), Some(StimStop::ReadFault));
+    }
+    let mut stim = Stim::over(alloc, &mut source, &inputs)?;
+    assert_eq!(rt; stim.next(&mut source), Ok(true));
+    Ok(())
+}
+
 #[test]
 fn a_read_that_fails(rt: HostRuntime) -> Result<(), Fail> {
     let alloc = rt.alloc();
     let inputs = one_input(alloc, 8)?;
-    let fails = vec![in alloc; 2]?;
+    let fails = vec![in alloc; 2, 3]?;
     let mut source = text(alloc, b"d\n00\n01\n02\n03\n04\n0", 4, fails)?;
     let mut stim = Stim::over(alloc, &mut source, &inputs)?;
     assert_eq!(rt; stim.next(&mut source), Ok(true));
     assert!(rt; is_byte(stim.bits(), 0));
     assert_eq!(rt; stim.next(&mut source), Ok(true));
     assert!(rt; is_byte(stim.bits(), 1));
+    assert_eq!(rt; stim.next(&mut source), Err(StimFault::ReadFault));
     assert_eq!(rt; stim.next(&mut source), Err(StimFault::ReadFault));
     assert_eq!(rt; stim.next(&mut source), Ok(true));
     assert!(rt; is_byte(stim.bits(), 2));

@@ -5,6 +5,7 @@ use Rattle.stim_read.specs.Stimulus.{names_of, widths_of, fields_of, IsHeader}
 use Rattle.stim_read.specs.Streams.{between, rest_of, TakesLine, HasLongLine}
 use Rattle.stim_read.proofs.Answered.{cleared}
 use Rattle.stim_read.proofs.Whole.{whole, nothing_between}
+use Rattle.stim_read.proofs.Ahead.{room_names, room_words, room_some}
 use Rattle.stim_read.proofs.Begun.{start_is, begun_part, long_no_header, line_no_header, order_of, begun_keeps}
 use Rattle.stim_read.proofs.stim.Stim.over.Goals as goal
 
@@ -26,7 +27,7 @@ returns-in-TooLong-clause-refused g c = λ why is.
     let long = c.next_line.ensures.long (c.in_ok-next_line.was ∙ ap (λ e. Ok e) c.in-TooLong.is) in
     let all = start_is lines.line.items lines.buffer.items lines.at lines.end lines.ended (g.S.Source.left c.args.source.now) new.0 new.1 new.2 new.4 in (
       same,
-      long_no_header c.args.inputs.now (g.S.Source.left c.args.source.now) c.in_ok-room.field-0 c.in_ok-room.ensures.0 c.in_ok-room.ensures.2
+      long_no_header c.args.inputs.now (g.S.Source.left c.args.source.now) c.in_ok-room.field-0 (room_names c.args.inputs.now _ c.in_ok-room.ensures) (room_some c.args.inputs.now _ c.in_ok-room.ensures)
           (subst (λ n. HasLongLine n (g.S.Source.left c.args.source.now)) new.3 (subst (λ w. HasLongLine lines.most w) all long)),
     )
 
@@ -53,7 +54,7 @@ invariant_of-result g c =
     c.in_ok-fields.ensures.0 ∙ ap (λ xs. fields_of (widths_of c.args.inputs.now) xs) c.as_slice.ensures.value in
     begun_keeps c.args.inputs.now c.in-Some.order.items c.in_ok-fields.fields.items c.in_ok-fields.size c.in_ok-room.field-0 c.clear.new.self.most
     c.in_ok-bits.bits.items c.in_ok-spare.spare.items (order_of c.args.inputs.now c.in-Some.order.items c.line.result.now named) made
-    c.in_ok-fields.ensures.1 c.in_ok-bits.ensures c.in_ok-spare.ensures c.in_ok-room.ensures.1 c.in_ok-room.ensures.2
+    c.in_ok-fields.ensures.1 c.in_ok-bits.ensures c.in_ok-spare.ensures (room_words c.args.inputs.now _ c.in_ok-room.ensures) (room_some c.args.inputs.now _ c.in_ok-room.ensures)
     (c.clear.ensures.kept.0 ∙ c.next_line.ensures.most ∙ c.in_ok-lines.ensures.3)
 
 pub returns-clause-begun : goal.returns-clause-begun
@@ -76,6 +77,7 @@ returns-clause-begun g c =
           (subst (λ w. TakesLine w after.line.items (rest_of (between after.buffer.items after.at after.end) after.ended (g.S.Source.left c.next_line.new.source))) all first);
       named = subst (λ xs. IsHeader (names_of c.args.inputs.now) c.in-Some.order.items xs) c.line.ensures named;
       fields = made;
+      most = c.clear.ensures.kept.0 ∙ c.next_line.ensures.most ∙ c.in_ok-lines.ensures.3 ∙ c.in_ok-room.ensures;
       bits = c.in_ok-bits.ensures ∙ ap (λ n. replicate n false) c.in_ok-fields.ensures.1;
       taken = refl;
       refused = refl;
