@@ -20,7 +20,7 @@ use Rattle.ila_top.specs.declared.status.Status.TheVariants.{Stimulus, ReadFault
 use Rattle.ila_top.specs.Rows.{BeginsIfTold, HasRowsIfTold, RefusesIfTold, ReadsRowsIfTold}
 use Rattle.ila_top.specs.Outside.{Streams}
 use Rattle.ila_top.specs.Reading.{Topped}
-use Rattle.ila_top.specs.Simulating.{SimStreams, BeginAnswer, inputs_of}
+use Rattle.ila_top.specs.Simulating.{SimStreams, BeginAnswer, OnlyBegins, inputs_of}
 
 module _ (inputs : List DataInput) (start : Option (List ℕ)) (reading : Reading) (rows : List (List Bool)) where
   pub rows_begin : (text : Option (List ℕ)) (after : Reading) (later : Option (List ℕ)) → HasBegun inputs text start reading → TakesRows reading start rows after later
@@ -112,12 +112,11 @@ answer_refused job before after (Line n) behind rows told shown = (rows, told, s
 answer_refused job before after (Limit n) behind rows told shown = (rows, told, shown)
 
 -- The header isn't read: what stands then, where the trace is as it was.
-pub answer_begin : {S K : Type 0} (job : Topped) (before after : Streams S K) (inputs : List DataInput) (status : Status) → inputs ≡ inputs_of job
-    → after.trace ≡ before.trace → BeginAnswer inputs before.left after.left before.read_faults after.read_faults status → SimStreams job before after status
-answer_begin job before after inputs (Stimulus Header) same keeps answer =
-    (subst (λ i. BeginAnswer i before.left after.left before.read_faults after.read_faults (Stimulus Header)) same answer, keeps)
-answer_begin job before after inputs (Stimulus (Line _)) same keeps answer = absurd answer
-answer_begin job before after inputs (Stimulus (Limit _)) same keeps answer = absurd answer
-answer_begin job before after inputs ReadFault same keeps answer = (answer.0, inl (record { trace = keeps; left = answer.1 }))
-answer_begin job before after inputs NoMemory same keeps answer = keeps
-answer_begin job before after inputs _ same keeps answer = absurd answer
+pub answer_begin : {S K : Type 0} (job : Topped) (before after : Streams S K) (status : Status) → OnlyBegins job before after
+    → BeginAnswer (inputs_of job) before.left after.left before.read_faults after.read_faults status → SimStreams job before after status
+answer_begin job before after (Stimulus Header) begins answer = (answer, begins)
+answer_begin job before after (Stimulus (Line _)) begins answer = absurd answer
+answer_begin job before after (Stimulus (Limit _)) begins answer = absurd answer
+answer_begin job before after ReadFault begins answer = (answer.0, inl (answer.1, begins))
+answer_begin job before after NoMemory begins answer = begins
+answer_begin job before after _ begins answer = absurd answer

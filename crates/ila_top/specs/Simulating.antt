@@ -11,7 +11,8 @@ use Rattle.elab_design.specs.Design.{IsTop}
 use Rattle.elab_design.specs.Elaborates.{Elaborates}
 use Rattle.stim_read.specs.declared.inputs.DataInput.{DataInput}
 use Rattle.stim_read.specs.Reading.{HasNoHeader}
-use Rattle.stim_read.specs.Streams.{ReadsPart}
+use Rattle.stim_read.specs.Stimulus.{longest_line}
+use Rattle.stim_read.specs.Streams.{ReadsPart, ReadsAhead}
 use Rattle.design_text.specs.DesignText.{design_inputs, ShowsDesign, ShowsDesignFront}
 use Rattle.ila_top.specs.Rows.{BeginsIfTold, HasRowsIfTold, RefusesIfTold, ReadsRowsIfTold}
 use Rattle.ila_top.specs.Commands.{SimWords}
@@ -39,6 +40,10 @@ SimEnds job text Done = (rows : List (List Bool)) × HasRowsIfTold (inputs_of jo
 SimEnds job text (Stimulus why) = IsStimRefusal (inputs_of job) text why
 SimEnds job text _ = ⊥
 
+-- Of the stimulus no more was read than is needed to find the end of its first line.
+abbrev pub ReadsHeader : List DataInput → Option (List ℕ) → Option (List ℕ) → Type 0
+ReadsHeader inputs text left = ReadsAhead (longest_line inputs) [] text left
+
 -- what reading the header of the stimulus may end in, where this was left of it
 abbrev pub BeginAnswer : List DataInput → Option (List ℕ) → Option (List ℕ) → ℕ → ℕ → Status → Type 0
 BeginAnswer inputs text left faults_before faults_after (Stimulus stim.Header) = HasNoHeader inputs text
@@ -53,22 +58,23 @@ pub record ShowsTaken {S K : Type 0} (job : Topped) (before after : Streams S K)
   pub taken : ReadsRowsIfTold (inputs_of job) before.left rows after.left
   pub shown : ShowsDesign job.design rows before.written after.written
 
--- The trace is the very same as before, and of the stimulus at most the first line was read.
-pub record OnlyBegins {S K : Type 0} (before after : Streams S K) : Type 0 where
+-- The trace is the very same as before, and of the stimulus at most the first line was read, and a piece behind it.
+pub record OnlyBegins {S K : Type 0} (job : Topped) (before after : Streams S K) : Type 0 where
   pub trace : after.trace ≡ before.trace
-  pub left : ReadsPart before.left after.left
+  pub left : ReadsHeader (inputs_of job) before.left after.left
 
 -- What simulating an accepted design ends in: each answer with its cause, what the trace has gained and what the stimulus has lost.
 abbrev pub SimStreams : {S K : Type 0} → Topped → Streams S K → Streams S K → Status → Type 0
 SimStreams job before after Done = (rows : List (List Bool)) × HasRowsIfTold (inputs_of job) before.left rows
     × ShowsDesign job.design rows before.written after.written × IsAtEnd after.left
-SimStreams job before after (Stimulus stim.Header) = HasNoHeader (inputs_of job) before.left × (after.trace ≡ before.trace)
+SimStreams job before after (Stimulus stim.Header) = HasNoHeader (inputs_of job) before.left × OnlyBegins job before after
 SimStreams job before after (Stimulus why) = (rows : List (List Bool)) × RefusesIfTold (inputs_of job) before.left rows why
     × ShowsDesign job.design rows before.written after.written
-SimStreams job before after ReadFault = Rose before.read_faults after.read_faults × (OnlyBegins before after ⊎ ShowsTaken job before after)
+SimStreams job before after ReadFault = Rose before.read_faults after.read_faults 
+    × ((ReadsPart before.left after.left × OnlyBegins job before after) ⊎ ShowsTaken job before after)
 SimStreams job before after WriteFault = Rose before.write_faults after.write_faults
     × ((rows : List (List Bool)) × BeginsIfTold (inputs_of job) before.left rows × ShowsDesignFront job.design rows before.written after.written)
-SimStreams job before after NoMemory = after.trace ≡ before.trace
+SimStreams job before after NoMemory = OnlyBegins job before after
 SimStreams job before after _ = ⊥
 
 -- It changes no file.

@@ -9,7 +9,7 @@ ghost use Rattle.stim_read.specs.Reading.{Begins};
 ghost use Rattle.stim_read.specs.Streams.{IsDrained};
 ghost use Rattle.ila_top.specs.Outside.{streams_of};
 ghost use Rattle.ila_top.specs.Reading.{Topped};
-ghost use Rattle.ila_top.specs.Simulating.{HasFlat, SimStreams, BeginAnswer};
+ghost use Rattle.ila_top.specs.Simulating.{HasFlat, SimStreams, BeginAnswer, ReadsHeader};
 
 use crate::status::Status;
 use clock_sim::Plain;
@@ -27,6 +27,7 @@ fn begin<S: Source>(alloc: Global, flat: &Flat, stimulus: &mut S) -> Result<Stim
     ensures size { IfOk result (λ stim. length stim.bits ≡ length (input_nets flat.now)) }
     ensures drained { IfOk result (λ stim. IsDrained stim.ended (S.left stimulus.new)) }
     ensures cause { IfErr result (BeginAnswer (ports.data_inputs flat.now) (S.left stimulus.old) (S.left stimulus.new) (S.faults stimulus.old) (S.faults stimulus.new)) }
+    ensures ahead { ReadsHeader (ports.data_inputs flat.now) (S.left stimulus.old) (S.left stimulus.new) }
     ensures later { S.faults stimulus.old ≤ S.faults stimulus.new }
 {
     match Stim::new(alloc, stimulus, flat) {

@@ -2,6 +2,7 @@ use Rattle.std.proofs.Common.{List, Err, inr, refl, ap, subst}
 use Rattle.stim_read.specs.declared.inputs.DataInput.{DataInput}
 use Rattle.stim_read.specs.Ports as ports
 use Rattle.ila_top.specs.Outside.{Streams, streams_of}
+use Rattle.ila_top.specs.Simulating.{BeginAnswer, ReadsHeader}
 use Rattle.ila_top.specs.Rows.{BeginsIfTold, HasRowsIfTold, RefusesIfTold, ReadsRowsIfTold}
 use Rattle.ila_top.proofs.Taken.{rows_begin, rows_read, rows_all, rows_refused, only_behind, behind_header, answer_refused, answer_begin, rose_since}
 use Rattle.ila_top.proofs.simulate.simulate.Goals as goal
@@ -11,7 +12,9 @@ returns-in-Err-clause-answers g c = λ job own.
     let same = c.inputs_agree.ensures job.design c.args.flat.now job.top own.checked c.requires.flat own.elaborates own.is_top in
     let before : Streams _ _ = streams_of g.S.Source g.K.Sink c.args.stimulus.now c.args.trace.now in
     let after : Streams _ _ = streams_of g.S.Source g.K.Sink c.begin.new.stimulus c.args.trace.now in
-    answer_begin job before after (ports.data_inputs c.args.flat.now) c.in-Err.status same refl c.in-Err.ensures.cause
+    let B : List DataInput → Type 0 = λ inputs. BeginAnswer inputs before.left after.left before.read_faults after.read_faults c.in-Err.status in
+    let H : List DataInput → Type 0 = λ inputs. ReadsHeader inputs before.left after.left in
+    answer_begin job before after c.in-Err.status (record { trace = refl; left = subst H same c.begin.ensures.ahead }) (subst B same c.in-Err.ensures.cause)
 
 pub returns-in-Ok-show-clause-answers : goal.returns-in-Ok-show-clause-answers
 returns-in-Ok-show-clause-answers g c = λ job own.
