@@ -1,5 +1,5 @@
 -- What `sim` means is exact, and what it does has its cause in the files and the stimulus.
-use Rattle.std.proofs.Common.{◌≡◌, ℕ, ◌≤◌, Bool, List, length, Option, Some, None, ◌⊎◌, inl, inr, sym, ◌∙◌, ap, subst}
+use Rattle.std.proofs.Common.{◌≡◌, ℕ, ◌≤◌, Bool, List, [], length, Option, Some, None, ◌⊎◌, inl, inr, sym, ◌∙◌, ap, subst}
 use Rattle.ila_base.specs.Files.{File}
 use Rattle.ila_base.specs.declared.refusal.StimRefusal.{StimRefusal}
 use Rattle.ila_base.specs.declared.refusal.StimRefusal.TheVariants.{Header, Line, Limit}
@@ -111,7 +111,7 @@ module _ (laws : AnswerLaws) (words : SimWords) where
 
   pub sim_exact : IsExactMeaning (sim words)
   sim_exact = record {
-    stages = exact_then (load kinds.Netlist words.netlist) (λ bytes. netlist bytes words.top words.clock) (load_exact kinds.Netlist words.netlist)
+    stages = exact_then (load kinds.Netlist [] words.netlist) (λ bytes. netlist bytes words.top words.clock) (load_exact kinds.Netlist [] words.netlist)
         (λ bytes. netlist_exact laws bytes words.top words.clock);
     one_end = λ files text job one other gives known first second.
         ended_once text job one other (named laws gives.0 words.top words.clock job gives.2) known first second;

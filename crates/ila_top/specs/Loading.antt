@@ -22,19 +22,19 @@ abbrev pub most_bytes : FileKind → ℕ
 most_bytes kinds.Netlist = 67108864
 most_bytes _ = 1048576
 
--- how the command ends where a file is longer
-abbrev pub too_long : FileKind → Ended
-too_long kinds.Netlist = plain (Netlist (net.Limit FileBytes 67108865) nowhere)
-too_long kinds.Project = plain (Project (project.BadValue []))
-too_long (kinds.Program core name) = record { status = Tsm core program.Syntax nowhere; core = Some name.now }
-too_long kinds.Settings = plain (Settings (settings.Form 0))
+-- how the command ends where a file is longer; a trigger program's core has this name
+abbrev pub too_long : FileKind → List ℕ → Ended
+too_long kinds.Netlist name = plain (Netlist (net.Limit FileBytes 67108865) nowhere)
+too_long kinds.Project name = plain (Project (project.BadValue []))
+too_long (kinds.Program core) name = record { status = Tsm core program.Syntax nowhere; core = Some name }
+too_long kinds.Settings name = plain (Settings (settings.Form 0))
 
 -- The bytes of the file of this name. It is refused where there is none, or where it is longer than allowed.
-abbrev pub load : FileKind → List ℕ → Stage (List ℕ)
-load kind name = record {
+abbrev pub load : FileKind → List ℕ → List ℕ → Stage (List ℕ)
+load kind core name = record {
   gives = λ files bytes. HoldsIfTold files name bytes × (length bytes ≤ most_bytes kind);
   refuses = λ files ended. ((ended ≡ plain (NoFile name)) × LacksIfTold files name)
-      ⊎ ((ended ≡ too_long kind) × LongerIfTold files name (most_bytes kind));
+      ⊎ ((ended ≡ too_long kind core) × LongerIfTold files name (most_bytes kind));
 }
 
 -- it ends so, or since memory wasn't found

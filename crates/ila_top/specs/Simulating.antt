@@ -84,7 +84,7 @@ SimDoes job before after status = SimStreams job before.streams after.streams st
 -- The netlist is loaded and read.
 abbrev pub sim_stages : SimWords → Stage Topped
 sim_stages words = do
-  bytes ← load kinds.Netlist words.netlist
+  bytes ← load kinds.Netlist [] words.netlist
   netlist bytes words.top words.clock
 
 -- the flat netlist of an accepted design, as the code has it

@@ -1,6 +1,6 @@
 -- The commands of the code, as what is asked for.
 use Rattle.ila_top.specs.Commands.{Asked, SimWords}
-use Rattle.ila_top.specs.Commands.Asked as asked
+use Rattle.ila_top.specs.Commands.Asked.{Sim as AsksSim}
 use Rattle.ila_top.specs.declared.form.Command.{Command}
 use Rattle.ila_top.specs.declared.form.Command.TheVariants.{Sim}
 use Rattle.ila_top.specs.declared.form.Sim.{Sim as Words}
@@ -9,4 +9,4 @@ abbrev pub words_of : Words → SimWords
 words_of words = record { netlist = words.netlist.now; top = words.top.now; clock = words.clock.now }
 
 abbrev pub asked_of : Command → Asked
-asked_of (Sim words) = asked.Sim (words_of words)
+asked_of (Sim words) = AsksSim (words_of words)

@@ -17,12 +17,12 @@ const MOST_NETLIST_BYTES: u64 = 67_108_864;
 const MOST_BYTES: u64 = 1_048_576;
 
 /// What a file is loaded as.
-#[derive(Clone, Copy)]
-pub enum FileKind<'a> {
+#[derive(Clone, Copy, Debug, PartialEq, Eq)]
+pub enum FileKind {
     Netlist,
     Project,
-    /// The trigger program of a core, by its number and its name.
-    Program(u8, &'a [u8]),
+    /// The trigger program of the core with this number.
+    Program(u8),
     Settings,
 }
 
@@ -32,13 +32,13 @@ fn most_of(kind: FileKind) -> u64
 {
     match kind {
         FileKind::Netlist => MOST_NETLIST_BYTES,
-        FileKind::Project | FileKind::Program(..) | FileKind::Settings => MOST_BYTES,
+        FileKind::Project | FileKind::Program(_) | FileKind::Settings => MOST_BYTES,
     }
 }
 
 // How the command ends where a file of a kind is longer.
-fn too_long(alloc: Global, kind: FileKind) -> Ended
-    ensures { IsEndedAs (loading.too_long kind) result }
+fn too_long(alloc: Global, kind: FileKind, core: &[u8]) -> Ended
+    ensures { IsEndedAs (loading.too_long kind core.now) result }
 {
     match kind {
         FileKind::Netlist => {
@@ -49,9 +49,9 @@ fn too_long(alloc: Global, kind: FileKind) -> Ended
             Ok(name) => plain(Status::Project(ProjRefusal::BadValue(name))),
             Err(_) => plain(Status::NoMemory),
         },
-        FileKind::Program(core, name) => match Name::new(alloc, name) {
+        FileKind::Program(number) => match Name::new(alloc, core) {
             Ok(name) => Ended {
-                status: Status::Tsm(core, TsmRefusal::Syntax, Place::NOWHERE),
+                status: Status::Tsm(number, TsmRefusal::Syntax, Place::NOWHERE),
                 core: Some(name),
             },
             Err(_) => plain(Status::NoMemory),
@@ -70,16 +70,18 @@ fn missing(alloc: Global, name: &str) -> Ended
     }
 }
 
-/// The bytes of a file. It changes no file.
+/// The bytes of a file. It changes no file. `core` is the name of the core whose program it is, for the
+/// error line, and says nothing for other kinds.
 pub fn load<H: Shelf>(
     alloc: Global,
     shelf: &mut H,
     kind: FileKind,
+    core: &[u8],
     name: &str,
 ) -> Result<Vec<u8>, Ended>
-    ensures given { IfOk result (λ bytes. (load kind name.now).gives (H.files shelf.old) bytes.items) }
+    ensures given { IfOk result (λ bytes. (load kind core.now name.now).gives (H.files shelf.old) bytes.items) }
     ensures short { IfOk result (λ bytes. vec_len bytes ≤ most_bytes kind) }
-    ensures halted { IfErr result (Halts ((load kind name.now).refuses (H.files shelf.old)) (H.faults shelf.old) (H.faults shelf.new)) }
+    ensures halted { IfErr result (Halts ((load kind core.now name.now).refuses (H.files shelf.old)) (H.faults shelf.old) (H.faults shelf.new)) }
     ensures kept { KeepsFiles (H.files shelf.old) (H.files shelf.new) }
     ensures later { H.faults shelf.old ≤ H.faults shelf.new }
 {
@@ -87,7 +89,7 @@ pub fn load<H: Shelf>(
         Ok(bytes) => Ok(bytes),
         Err(LoadFault::Failed) => Err(plain(Status::ShelfFault)),
         Err(LoadFault::Missing) => Err(missing(alloc, name)),
-        Err(LoadFault::TooLong(_)) => Err(too_long(alloc, kind)),
+        Err(LoadFault::TooLong(_)) => Err(too_long(alloc, kind, core)),
         Err(LoadFault::NoMemory) => Err(plain(Status::NoMemory)),
     }
 }

@@ -44,7 +44,7 @@ fn design_of<H: Shelf>(
     ensures kept { KeepsFiles (H.files shelf.old) (H.files shelf.new) }
     ensures later { H.faults shelf.old ≤ H.faults shelf.new }
 {
-    let bytes = match load(alloc, shelf, FileKind::Netlist, words.netlist) {
+    let bytes = match load(alloc, shelf, FileKind::Netlist, b"", words.netlist) {
         Ok(bytes) => bytes,
         Err(ended) => return Err(ended),
     };
