@@ -1,12 +1,12 @@
 -- The lines of a run, one clock more.
-use Rattle.std.proofs.Common.{◌≡◌, ℕ, zero, suc, ◌+◌, ◌*◌, Bool, List, [], ◌∷◌, ◌++◌, map, length, Option, Some, None, refl, sym, ◌∙◌, ap, subst, arith, append-nil, length-append}
+use Rattle.std.proofs.Common.{◌≡◌, ℕ, zero, suc, ◌+◌, ◌*◌, ◌≤◌, Bool, List, [], ◌∷◌, ◌++◌, map, length, take, Option, Some, None, refl, sym, ◌∙◌, ap, subst, arith, append-nil, length-append}
 use Rattle.std.specs.Prelude.{slice_get, All}
 use Rattle.std.specs.List.{flat_map, range_with_len}
 use Rattle.std.specs.Io.KnownBytes.{Appends}
 use Rattle.std.proofs.KnownBytes.{Appends-trans, Appends-nil}
 use Rattle.std.proofs.lemmas.Grind.{flat_map-append}
 use Rattle.ila_base.specs.Faults.{AppendsFront}
-use Rattle.ila_base.specs.FaultLaws.{front_of}
+use Rattle.std.proofs.Math.Seq.{take-append-add}
 use Rattle.net_core.specs.declared.parts.NetId.{NetId}
 use Rattle.net_core.specs.Netlist.{Netlist}
 use Rattle.net_core.specs.Run.{History, IsRun, SameBits, StandsFor}
@@ -14,7 +14,7 @@ use Rattle.ila_session.specs.declared.pieces.Piece.{Piece}
 use Rattle.ila_session.specs.declared.pieces.Piece.TheVariants as pieces
 use Rattle.ila_session.specs.Outputs.{hex_digit, bit_value, clock_line, clock_lines}
 use Rattle.ila_session.specs.Pieces.{piece_byte, net_bit, IsDataNet, HasDataNets}
-use Rattle.ila_session.specs.Shown.{ShowsLines, ShowsLinesFront}
+use Rattle.ila_session.specs.Shown.{text_before, AppendsClocksFront, ShowsLines, ShowsLinesFront}
 
 -- A run over rows is one over the first of them.
 front_at : {X : Type 0} (xs ys : List X) (k : ℕ) (x : X) → slice_get xs k ≡ Some x → slice_get (xs ++ ys) k ≡ Some x
@@ -90,15 +90,24 @@ shows_more net ps text all bit content rows row stands old mid new before line h
     subst (Appends old new) (sym (lines_grow net h rows row))
     (Appends-trans old mid new (clock_lines net h (length rows)) (clock_line net (h.bit (length rows))) (before h (cut_run net rows (row ∷ []) h run)) one)
 
+-- behind the clocks before, a front of the last one's text was put
+pub clocks_front : (text : ℕ → List ℕ) (clocks all : ℕ) (line : List ℕ) → all ≡ suc clocks → text all ≡ text clocks ++ line → (old mid new : Option (List ℕ)) → Appends old mid (text clocks)
+    → AppendsFront mid new line → AppendsClocksFront text all old new
+clocks_front text clocks all line one grown old mid new before (n, front) = record {
+  count = length (text clocks) + n;
+  whole = subst (λ k. length (text_before text k) ≤ length (text clocks) + n) (sym one) (omega arith);
+  front = subst (Appends old new) (sym (ap (take (length (text clocks) + n)) grown ∙ take-append-add (text clocks) line n))
+      (Appends-trans old mid new (text clocks) (take n line) before front);
+}
+
 pub shows_front : (net : Netlist) (ps : List Piece) → ((bit : ℕ → Bool) → map (piece_byte bit) ps ≡ clock_line net bit) → All (HasDataNets net) ps
     → (bit : ℕ → Bool) (content : ℕ → ℕ → Bool) (rows : List (List Bool)) (row : List Bool) → StandsFor net bit content (rows ++ row ∷ [])
     → (old mid new : Option (List ℕ)) → ShowsLines net rows old mid → AppendsFront mid new (map (piece_byte bit) ps) → ShowsLinesFront net (rows ++ row ∷ []) old new
 shows_front net ps text all bit content rows row stands old mid new before front h run =
     let line : List ℕ = clock_line net (h.bit (length rows)) in
     let one : AppendsFront mid new line = subst (AppendsFront mid new) (line_is net ps text all bit content rows row stands h run) front in
-    let whole : AppendsFront old new (clock_lines net h (length rows) ++ (line ++ [])) =
-    front_of old mid new (clock_lines net h (length rows)) line [] (before h (cut_run net rows (row ∷ []) h run)) one in
-    subst (AppendsFront old new) (ap (λ ys. clock_lines net h (length rows) ++ ys) (append-nil line) ∙ sym (lines_grow net h rows row)) whole
+    clocks_front (clock_lines net h) (length rows) (length (rows ++ row ∷ [])) line (omega (arith, length-append rows (row ∷ []))) (lines_grow net h rows row) old mid new
+    (before h (cut_run net rows (row ∷ []) h run)) one
 
 -- before the first row nothing is shown
 pub shows_none : (net : Netlist) (old : Option (List ℕ)) → ShowsLines net [] old old

@@ -6,7 +6,7 @@ use Rattle.ila_base.specs.declared.refusal.StimRefusal.{StimRefusal}
 use Rattle.net_core.specs.Netlist.{Netlist}
 use Rattle.net_core.specs.Run.{StandsFor}
 use Rattle.stim_read.specs.Reading.{Reading, rest, TakesRow, Refuses}
-use Rattle.stim_read.specs.Streams.{rest_of}
+use Rattle.stim_read.specs.Streams.{rest_of, ReadsAhead}
 use Rattle.stim_read.specs.RowLaws.{HasTaken, taken_more}
 use Rattle.ila_session.specs.Shown.{TakesRows, RefusesBehind}
 
@@ -64,9 +64,12 @@ takes_end before old new left mid later rows taken over ended unused fields bits
 
 -- a line is refused behind the rows, unless it was before
 pub refuses_behind : (before old : Reading) (left mid : Option (List ℕ)) (rows : List (List Bool)) (why : StimRefusal) → TakesRows before left rows old mid
-    → (old.refused ≡ Some why → before.refused ≡ Some why) → (old.refused ≡ Some why) ⊎ Refuses old (rest old mid) why → (before.refused ≡ Some why) ⊎ RefusesBehind before left rows why
-refuses_behind before old left mid rows why taken earlier (inl refused) = inl (earlier refused)
-refuses_behind before old left mid rows why taken earlier (inr refuses) = inr (record { reading = old; later = mid; taken = taken; refuses = refuses })
+    → (old.refused ≡ Some why → (before.refused ≡ Some why) × (rows ≡ [])) → (old.refused ≡ Some why) ⊎ Refuses old (rest old mid) why
+    → (after : Option (List ℕ)) → ReadsAhead old.most old.unused mid after
+    → ((before.refused ≡ Some why) × (rows ≡ [])) ⊎ RefusesBehind before left rows why after
+refuses_behind before old left mid rows why taken earlier (inl refused) after ahead = inl (earlier refused)
+refuses_behind before old left mid rows why taken earlier (inr refuses) after ahead =
+    inr (record { reading = old; later = mid; taken = taken; refuses = refuses; ahead = ahead })
 
 pub none_some : {X : Type 0} (o : Option X) (x : X) → o ≡ None → o ≡ Some x → ⊥
 none_some o x none some = cc
@@ -80,6 +83,9 @@ stands_on net own same a b c d row step rows stands =
 -- answers that differ
 pub err_ok : {A E : Type 0} (e : E) (a : A) → ◌≡◌ {A = Result A E} (Err e) (Ok a) → ⊥
 err_ok e a is = cc
+
+pub ok_err : {A E : Type 0} (a : A) (e : E) → ◌≡◌ {A = Result A E} (Ok a) (Err e) → ⊥
+ok_err a e is = cc
 
 pub false_true : {E : Type 0} (b : Bool) → b ≡ false → ◌≡◌ {A = Result Bool E} (Ok b) (Ok true) → ⊥
 false_true b wrong is = cc

@@ -72,7 +72,8 @@ fn show_rows<M: Machine, S: Source, K: Sink>(
     ensures done { (n : ℕ) → result ≡ Ok n → (rows : List (List Bool)) × (n ≡ length rows) × IsAtEnd (rest stim.new (S.left source.new))
         × ShowedRows (M.netlist machine.old) stim.old (S.left source.old) rows (M.bit machine.new) (M.content machine.new) stim.new (S.left source.new)
         × ShowsLines (M.netlist machine.old) rows (K.written trace.old) (K.written trace.new) }
-    ensures refused { (why : StimRefusal) → result ≡ Err (fault.Stimulus why) → (rows : List (List Bool)) × ((stim.old.refused ≡ Some why) ⊎ RefusesBehind stim.old (S.left source.old) rows why)
+    ensures refused { (why : StimRefusal) → result ≡ Err (fault.Stimulus why) → (rows : List (List Bool))
+        × (((stim.old.refused ≡ Some why) × (rows ≡ [])) ⊎ RefusesBehind stim.old (S.left source.old) rows why (S.left source.new))
         × StandsFor (M.netlist machine.old) (M.bit machine.new) (M.content machine.new) rows
         × ShowsLines (M.netlist machine.old) rows (K.written trace.old) (K.written trace.new) }
     ensures read_fault { result ≡ Err fault.ReadFault → (rows : List (List Bool)) × Rose (S.faults source.old) (S.faults source.new)
@@ -83,6 +84,8 @@ fn show_rows<M: Machine, S: Source, K: Sink>(
         × ShowedRows (M.netlist machine.old) stim.old (S.left source.old) rows (M.bit machine.new) (M.content machine.new) stim.new (S.left source.new)
         × ShowsLinesFront (M.netlist machine.old) rows (K.written trace.old) (K.written trace.new) }
     ensures memory { result ≢ Err fault.NoMemory }
+    ensures again { (why : StimRefusal) → stim.old.refused ≡ Some why → (result ≡ Err (fault.Stimulus why))
+        × (machine.new ≡ machine.old) × (stim.new ≡ stim.old) × (source.new ≡ source.old) × (trace.new ≡ trace.old) }
     ensures drained { IsOk result → IsDrained stim.old.ended (S.left source.old) → IsAtEnd (S.left source.new) }
     ensures read_later { S.faults source.old ≤ S.faults source.new }
     ensures write_later { K.faults trace.old ≤ K.faults trace.new }
@@ -145,7 +148,8 @@ pub fn show<M: Machine, S: Source, K: Sink>(
     ensures done { (n : ℕ) → result ≡ Ok n → (rows : List (List Bool)) × (n ≡ length rows) × IsAtEnd (rest stim.new (S.left source.new))
         × ShowedRows flat.now stim.old (S.left source.old) rows (M.bit machine.new) (M.content machine.new) stim.new (S.left source.new)
         × ShowsRun flat.now rows (K.written trace.old) (K.written trace.new) }
-    ensures refused { (why : StimRefusal) → result ≡ Err (fault.Stimulus why) → (rows : List (List Bool)) × ((stim.old.refused ≡ Some why) ⊎ RefusesBehind stim.old (S.left source.old) rows why)
+    ensures refused { (why : StimRefusal) → result ≡ Err (fault.Stimulus why) → (rows : List (List Bool))
+        × (((stim.old.refused ≡ Some why) × (rows ≡ [])) ⊎ RefusesBehind stim.old (S.left source.old) rows why (S.left source.new))
         × StandsFor flat.now (M.bit machine.new) (M.content machine.new) rows
         × ShowsRun flat.now rows (K.written trace.old) (K.written trace.new) }
     ensures read_fault { result ≡ Err fault.ReadFault → (rows : List (List Bool)) × Rose (S.faults source.old) (S.faults source.new)
@@ -156,6 +160,8 @@ pub fn show<M: Machine, S: Source, K: Sink>(
         × ShowedRows flat.now stim.old (S.left source.old) rows (M.bit machine.new) (M.content machine.new) stim.new (S.left source.new)
         × ShowsRunFront flat.now rows (K.written trace.old) (K.written trace.new) }
     ensures memory { result ≡ Err fault.NoMemory → (machine.new ≡ machine.old) × (stim.new ≡ stim.old) × (source.new ≡ source.old) × (trace.new ≡ trace.old) }
+    ensures again { (why : StimRefusal) → stim.old.refused ≡ Some why → (machine.new ≡ machine.old) × (stim.new ≡ stim.old) × (source.new ≡ source.old)
+        × (result ≢ Err fault.NoMemory → result ≢ Err fault.WriteFault → result ≡ Err (fault.Stimulus why)) }
     ensures drained { IsOk result → IsDrained stim.old.ended (S.left source.old) → IsAtEnd (S.left source.new) }
     ensures read_later { S.faults source.old ≤ S.faults source.new }
     ensures write_later { K.faults trace.old ≤ K.faults trace.new }

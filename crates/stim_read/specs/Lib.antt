@@ -2,6 +2,7 @@ pub mod Stimulus
 pub mod Words
 pub mod Numbers
 pub mod Streams
+pub mod Reader
 pub mod Ports
 pub mod Reading
 pub mod RowLaws

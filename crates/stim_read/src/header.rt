@@ -10,7 +10,8 @@ use std::collections::BTreeMap;
 
 // The words of a line, which single spaces part.
 fn words_of<'a>(alloc: Global, line: &'a [u8]) -> Result<Vec<&'a [u8]>, NoMemory>
-    ensures { IfOk result (λ words. map (λ word. word.now) words.items ≡ slice_split (λ byte. byte == space) line.now) }
+    ensures { IfOk result (λ words. map (λ word. word.now) words.items ≡ slice_split
+        (λ byte. byte == space) line.now) }
 {
     Ok(line.split(|byte| *byte == b' ').collect(alloc)?)
 }
@@ -38,7 +39,9 @@ pub(crate) fn header(
     line: &[u8],
 ) -> Result<Option<Vec<usize>>, NoMemory>
     requires { AreNames (names_of inputs.now) }
-    ensures { IfOk result (λ named. MatchOption named ((order : List ℕ) → IsHeader (names_of inputs.now) order line.now → ⊥) (λ order. IsHeader (names_of inputs.now) order.items line.now)) }
+    ensures { IfOk result (λ named. MatchOption named ((order : List ℕ)
+        → IsHeader (names_of inputs.now) order line.now
+        → ⊥) (λ order. IsHeader (names_of inputs.now) order.items line.now)) }
 {
     let mut order = Vec::new(alloc);
     if inputs.is_empty() {

@@ -7,7 +7,11 @@ use std::alloc::Global;
 
 // The fields of all inputs, in the inputs' order, and how many bits a row has.
 fn all_fields(alloc: Global, inputs: &[DataInput]) -> Result<(Vec<Field>, usize), NoMemory>
-    ensures { IfOk result (λ made. (length made.0.items ≡ length inputs.now) × ((k : ℕ) → k < length inputs.now → get_or made.0.items k (record { place = 0; width = 0 }) ≡ field_at (widths_of inputs.now) k) × (made.1 ≡ sum (widths_of inputs.now))) }
+    ensures { IfOk result (λ made. (length made.0.items ≡ length inputs.now) × ((k : ℕ)
+        → k < length inputs.now
+        → get_or made.0.items k (record { place = 0; width = 0 }) ≡ field_at
+        (widths_of inputs.now) k)
+        × (made.1 ≡ sum (widths_of inputs.now))) }
 {
     let mut fields = Vec::new(alloc);
     let mut place: usize = 0;
@@ -27,7 +31,8 @@ pub(crate) fn fields_in_order(
     order: &[usize],
 ) -> Result<(Vec<Field>, usize), NoMemory>
     requires { All (λ k. k < length inputs.now) order.now }
-    ensures { IfOk result (λ made. (made.0.items ≡ fields_of (widths_of inputs.now) order.now) × (made.1 ≡ sum (widths_of inputs.now))) }
+    ensures { IfOk result (λ made. (made.0.items ≡ fields_of (widths_of inputs.now) order.now)
+        × (made.1 ≡ sum (widths_of inputs.now))) }
 {
     let (all, size) = all_fields(alloc, inputs)?;
     let mut fields = Vec::new(alloc);

@@ -50,14 +50,18 @@ pub(crate) struct LineReader {
 
 // The place of the first newline, by the bytes before it.
 fn first_newline(bytes: &[u8]) -> Option<usize>
-    ensures { MatchOption result (Unbroken bytes.now) (λ n. (n < length bytes.now) × (slice_index bytes.now n ≡ newline) × ((k : ℕ) → k < n → slice_index bytes.now k ≢ newline)) }
+    ensures { MatchOption result (Unbroken bytes.now) (λ n. (n < length bytes.now)
+        × (slice_index bytes.now n ≡ newline) × ((k : ℕ) → k < n
+        → slice_index bytes.now k ≢ newline)) }
 {
     bytes.iter().position(|byte| *byte == b'\n')
 }
 
 // The place of the first newline.
 fn newline_of(bytes: &[u8]) -> Option<usize>
-    ensures { MatchOption result (Unbroken bytes.now) (λ n. (n < length bytes.now) × Unbroken (take n bytes.now) × (bytes.now ≡ take n bytes.now ++ newline ∷ drop (n + 1) bytes.now)) }
+    ensures { MatchOption result (Unbroken bytes.now) (λ n. (n < length bytes.now)
+        × Unbroken (take n bytes.now)
+        × (bytes.now ≡ take n bytes.now ++ newline ∷ drop (n + 1) bytes.now)) }
 {
     match first_newline(bytes) {
         Some(at) => Some(at),
@@ -66,9 +70,12 @@ fn newline_of(bytes: &[u8]) -> Option<usize>
 }
 
 impl LineReader {
+    ghost use Rattle.stim_read.specs.Reader.{ahead_of, unused_of, rest_behind, rest_with_line};
+
     /// A reader that has read nothing, of lines of at most so many bytes.
     pub(crate) fn new(alloc: Global, most: usize) -> Result<LineReader, NoMemory>
-        ensures { IfOk result (λ reader. (reader.line.items ≡ []) × (reader.at ≡ 0) × (reader.end ≡ 0) × (reader.most ≡ most) × (reader.ended ≡ false)) }
+        ensures { IfOk result (λ reader. (reader.line.items ≡ []) × (reader.at ≡ 0)
+            × (reader.end ≡ 0) × (reader.most ≡ most) × (reader.ended ≡ false)) }
     {
         Ok(LineReader {
             buffer: vec![in alloc; 0; PIECE]?,
@@ -83,10 +90,13 @@ impl LineReader {
     // Appends the next bytes to the line, as many as are asked for, where it has room for them.
     fn append(&mut self, count: usize) -> bool
         requires within { self.old.at + count ≤ self.old.end }
-        requires unbroken { Unbroken (take count (between self.old.buffer.items self.old.at self.old.end)) }
-        ensures fits { result ≡ true → (self.new.line.items ≡ self.old.line.items ++ take count (between self.old.buffer.items self.old.at self.old.end)) × (self.new.at ≡ self.old.at + count) }
+        requires unbroken { Unbroken (take count (ahead_of self.old)) }
+        ensures fits { result ≡ true
+            → (self.new.line.items ≡ self.old.line.items ++ take count (ahead_of self.old))
+            × (self.new.at ≡ self.old.at + count) }
         ensures full { result ≡ false → self.old.most < length self.old.line.items + count }
-        ensures buffer { (self.new.buffer.items ≡ self.old.buffer.items) × (self.new.end ≡ self.old.end) }
+        ensures buffer { (self.new.buffer.items ≡ self.old.buffer.items)
+            × (self.new.end ≡ self.old.end) }
         ensures kept { (self.new.most ≡ self.old.most) × (self.new.ended ≡ self.old.ended) }
     {
         if self.most - self.line.len() < count {
@@ -102,7 +112,8 @@ impl LineReader {
 
     // Moves the bytes that were read to the line, up to a newline.
     fn take_ahead(&mut self) -> Found
-        ensures found { Finds result self.old.most self.old.line.items (between self.old.buffer.items self.old.at self.old.end) self.new.line.items (between self.new.buffer.items self.new.at self.new.end) }
+        ensures found { Finds result self.old.most self.old.line.items
+            (ahead_of self.old) self.new.line.items (ahead_of self.new) }
         ensures kept { (self.new.most ≡ self.old.most) × (self.new.ended ≡ self.old.ended) }
         ensures all { result ≡ found.Nothing → self.new.at ≡ self.new.end }
     {
@@ -125,18 +136,21 @@ impl LineReader {
         }
     }
 
-    // Reads on, where nothing is ahead. It answers whether something then is. At the end there is not.
+    // Reads on, where nothing is ahead. It answers whether something then is, which at the end is not.
     fn fill<S: Source>(&mut self, source: &mut S) -> Result<bool, Failed>
         requires { self.old.at ≡ self.old.end }
-        ensures rest { Keeps (rest_of [] self.old.ended (S.left source.old)) (rest_of (between self.new.buffer.items self.new.at self.new.end) self.new.ended (S.left source.new)) }
-        ensures taken { Consumes (S.left source.old) (S.left source.new) (between self.new.buffer.items self.new.at self.new.end) }
+        ensures rest { Keeps (rest_of [] self.old.ended (S.left source.old)) (rest_behind self.new
+            (S.left source.new)) }
+        ensures taken { Consumes (S.left source.old) (S.left source.new) (ahead_of self.new) }
         ensures line { self.new.line.items ≡ self.old.line.items }
         ensures most { self.new.most ≡ self.old.most }
         ensures more { IfOk result (λ more. more ≡ true → self.new.at < self.new.end) }
         ensures end { IfOk result (λ more. more ≡ false → self.new.ended ≡ true) }
         ensures stays { OnErr result ((self.new.at ≡ self.new.end) × (self.new.ended ≡ false)) }
-        ensures quiet { self.old.ended ≡ true → (source.new ≡ source.old) × (self.new.ended ≡ true) }
-        ensures drained { IsDrained self.old.ended (S.left source.old) → IsDrained self.new.ended (S.left source.new) }
+        ensures quiet { self.old.ended ≡ true → (source.new ≡ source.old)
+            × (self.new.ended ≡ true) }
+        ensures drained { IsDrained self.old.ended (S.left source.old)
+            → IsDrained self.new.ended (S.left source.new) }
         ensures later { S.faults source.old ≤ S.faults source.new }
         ensures cause { OnErr result (Rose (S.faults source.old) (S.faults source.new)) }
     {
@@ -153,7 +167,7 @@ impl LineReader {
     // Takes a carriage return from the end of the line.
     fn strip(&mut self)
         ensures line { self.new.line.items ≡ strip_carriage_return self.old.line.items }
-        ensures ahead { between self.new.buffer.items self.new.at self.new.end ≡ between self.old.buffer.items self.old.at self.old.end }
+        ensures ahead { ahead_of self.new ≡ ahead_of self.old }
         ensures kept { (self.new.most ≡ self.old.most) × (self.new.ended ≡ self.old.ended) }
     {
         if self.line.last() == Some(&b'\r') {
@@ -165,17 +179,25 @@ impl LineReader {
     /// source has left. The line has neither its newline nor a carriage return before that. It reads
     /// only where the bytes ahead hold no newline. After a fault nothing is lost.
     pub(crate) fn next_line<S: Source>(&mut self, source: &mut S) -> Result<LineEnd, Failed>
-        ensures line { result ≡ Ok got.Line → TakesLine (prepend_known self.old.line.items (rest_of (between self.old.buffer.items self.old.at self.old.end) self.old.ended (S.left source.old))) self.new.line.items (rest_of (between self.new.buffer.items self.new.at self.new.end) self.new.ended (S.left source.new)) }
-        ensures end { result ≡ Ok got.End → IsAtEnd (prepend_known self.old.line.items (rest_of (between self.old.buffer.items self.old.at self.old.end) self.old.ended (S.left source.old))) }
-        ensures ends { result ≡ Ok got.End → (self.new.line.items ≡ []) × (self.new.at ≡ self.new.end) × (self.new.ended ≡ true) }
-        ensures long { result ≡ Ok got.TooLong → HasLongLine self.old.most (prepend_known self.old.line.items (rest_of (between self.old.buffer.items self.old.at self.old.end) self.old.ended (S.left source.old))) }
-        ensures rest { OnErr result (Keeps (prepend_known self.old.line.items (rest_of (between self.old.buffer.items self.old.at self.old.end) self.old.ended (S.left source.old))) (prepend_known self.new.line.items (rest_of (between self.new.buffer.items self.new.at self.new.end) self.new.ended (S.left source.new)))) }
+        ensures line { result ≡ Ok got.Line
+            → TakesLine (rest_with_line self.old (S.left source.old)) self.new.line.items
+            (rest_behind self.new (S.left source.new)) }
+        ensures end { result ≡ Ok got.End → IsAtEnd (rest_with_line self.old (S.left source.old)) }
+        ensures ends { result ≡ Ok got.End → (self.new.line.items ≡ [])
+            × (self.new.at ≡ self.new.end) × (self.new.ended ≡ true) }
+        ensures long { result ≡ Ok got.TooLong
+            → HasLongLine self.old.most (rest_with_line self.old (S.left source.old)) }
+        ensures rest { OnErr result (Keeps (rest_with_line self.old (S.left source.old))
+            (rest_with_line self.new (S.left source.new))) }
         ensures stays { OnErr result ((self.new.at ≡ self.new.end) × (self.new.ended ≡ false)) }
         ensures most { self.new.most ≡ self.old.most }
-        ensures ahead { ReadsAhead self.old.most (self.old.line.items ++ between self.old.buffer.items self.old.at self.old.end) (S.left source.old) (S.left source.new) }
-        ensures quiet { (Unbroken (between self.old.buffer.items self.old.at self.old.end) → ⊥) → source.new ≡ source.old }
-        ensures ended { self.old.ended ≡ true → (source.new ≡ source.old) × (self.new.ended ≡ true) }
-        ensures drained { IsDrained self.old.ended (S.left source.old) → IsDrained self.new.ended (S.left source.new) }
+        ensures ahead { ReadsAhead self.old.most (unused_of self.old) (S.left source.old)
+            (S.left source.new) }
+        ensures quiet { (Unbroken (ahead_of self.old) → ⊥) → source.new ≡ source.old }
+        ensures ended { self.old.ended ≡ true → (source.new ≡ source.old)
+            × (self.new.ended ≡ true) }
+        ensures drained { IsDrained self.old.ended (S.left source.old)
+            → IsDrained self.new.ended (S.left source.new) }
         ensures later { S.faults source.old ≤ S.faults source.new }
         ensures cause { OnErr result (Rose (S.faults source.old) (S.faults source.new)) }
     {
@@ -207,7 +229,7 @@ impl LineReader {
     /// Begins a new line.
     pub(crate) fn clear(&mut self)
         ensures line { self.new.line.items ≡ [] }
-        ensures ahead { between self.new.buffer.items self.new.at self.new.end ≡ between self.old.buffer.items self.old.at self.old.end }
+        ensures ahead { ahead_of self.new ≡ ahead_of self.old }
         ensures kept { (self.new.most ≡ self.old.most) × (self.new.ended ≡ self.old.ended) }
     {
         self.line.clear();

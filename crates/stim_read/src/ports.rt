@@ -27,7 +27,8 @@ fn input_of(
     group: &Group,
 ) -> Result<Option<DataInput>, NoMemory>
     requires { length group.now.bits < 2 ^ 32 }
-    ensures { IfOk result (λ found. let width = length (filter (λ net. not (is_clock flat.now net.0)) group.now.bits) in
+    ensures { IfOk result (λ found. let width = length (filter (λ net. not
+        (is_clock flat.now net.0)) group.now.bits) in
         found ≡ (if not output && nat_lt 0 width then Some (record { name = group.now.name; width = width }) else None)) }
 {
     let width = count_data(flat, group.bits.as_slice());
@@ -55,7 +56,8 @@ fn push_found(inputs: &mut Vec<DataInput>, found: Option<DataInput>) -> Result<(
 pub fn data_inputs(alloc: Global, flat: &Flat) -> Result<Vec<DataInput>, NoMemory>
     ensures value { IfOk result (λ inputs. inputs.items ≡ data_inputs flat.now) }
     ensures names { OnOk result (AreNames (names_of (data_inputs flat.now))) }
-    ensures size { OnOk result (sum (widths_of (data_inputs flat.now)) ≡ length (input_nets flat.now)) }
+    ensures size { OnOk result (sum (widths_of (data_inputs flat.now)) ≡ length
+        (input_nets flat.now)) }
 {
     let groups = flat.groups();
     let mut inputs = Vec::new(alloc);

@@ -84,7 +84,8 @@ fn is_word(field: Field, word: &[u8]) -> bool
 // It answers what follows the word.
 fn take_word<'a>(field: Field, text: &'a [u8], bits: &mut [bool]) -> Option<&'a [u8]>
     requires { field.place + field.width ≤ length bits.old }
-    ensures word { MatchOption result (NoWord field.width text.now × (bits.new ≡ bits.old)) (λ rest. TakesWord field text.now rest.now bits.old bits.new) }
+    ensures word { MatchOption result (NoWord field.width text.now
+        × (bits.new ≡ bits.old)) (λ rest. TakesWord field text.now rest.now bits.old bits.new) }
     ensures long { length bits.new ≡ length bits.old }
 {
     if text.len() < field.digits() {
@@ -101,7 +102,8 @@ fn take_word<'a>(field: Field, text: &'a [u8], bits: &mut [bool]) -> Option<&'a 
 
 // What follows a space at the front of the text.
 fn after_space(text: &[u8]) -> Option<&[u8]>
-    ensures { MatchOption result ((rest : List ℕ) → text.now ≡ space ∷ rest → ⊥) (λ rest. text.now ≡ space ∷ rest.now) }
+    ensures { MatchOption result ((rest : List ℕ) → text.now ≡ space ∷ rest
+        → ⊥) (λ rest. text.now ≡ space ∷ rest.now) }
 {
     match text {
         [b' ', rest @ ..] => Some(rest),
@@ -115,7 +117,8 @@ fn read_tail(fields: &[Field], text: &[u8], bits: &mut [bool]) -> bool
     requires apart { AllApart fields.now }
     ensures read { result ≡ true → IsTail fields.now text.now bits.new }
     ensures refused { result ≡ false → (row : List Bool) → IsTail fields.now text.now row → ⊥ }
-    ensures kept { (other : Field) → All (Apart other) fields.now → bits_at other bits.new ≡ bits_at other bits.old }
+    ensures kept { (other : Field) → All (Apart other) fields.now
+        → bits_at other bits.new ≡ bits_at other bits.old }
     ensures long { length bits.new ≡ length bits.old }
 {
     let mut rest = text;
@@ -137,7 +140,8 @@ pub(crate) fn read_row(fields: &[Field], line: &[u8], bits: &mut [bool]) -> bool
     requires fit { AllFit fields.now (length bits.old) }
     requires apart { AllApart fields.now }
     ensures read { result ≡ true → IsRow fields.now (length bits.old) line.now bits.new }
-    ensures refused { result ≡ false → (row : List Bool) → IsRow fields.now (length bits.old) line.now row → ⊥ }
+    ensures refused { result ≡ false → (row : List Bool)
+        → IsRow fields.now (length bits.old) line.now row → ⊥ }
     ensures long { length bits.new ≡ length bits.old }
 {
     let Some((first, others)) = fields.split_first() else {

@@ -66,8 +66,10 @@ fn refusal_of(taken: u32) -> StimRefusal
 fn take_row(taken: u32, fields: &[Field], line: &[u8], bits: &mut [bool]) -> Result<(), StimRefusal>
     requires fit { AllFit fields.now (length bits.old) }
     requires apart { AllApart fields.now }
-    ensures row { OnOk result ((taken < most_rows) × IsRow fields.now (length bits.old) line.now bits.new) }
-    ensures refused { (why : StimRefusal) → result ≡ Err why → RefusesLine taken (IsSomeRow fields.now (length bits.old) line.now) why }
+    ensures row { OnOk result ((taken < most_rows)
+        × IsRow fields.now (length bits.old) line.now bits.new) }
+    ensures refused { (why : StimRefusal) → result ≡ Err why
+        → RefusesLine taken (IsSomeRow fields.now (length bits.old) line.now) why }
     ensures long { length bits.new ≡ length bits.old }
 {
     if taken == u32::MAX {
@@ -95,11 +97,16 @@ impl Stim {
         inputs: &[DataInput],
     ) -> Result<Stim, StimStop>
         requires { AreNames (names_of inputs.now) }
-        ensures begun { IfOk result (λ stim. Begins inputs.now (S.left source.old) (S.left source.new) stim) }
-        ensures refused { (why : StimRefusal) → result ≡ Err (stop.Refused why) → (why ≡ refusal.Header) × HasNoHeader inputs.now (S.left source.old) }
-        ensures fault { result ≡ Err stop.ReadFault → ReadsPart (S.left source.old) (S.left source.new) }
-        ensures ahead { ReadsAhead (longest_line inputs.now) [] (S.left source.old) (S.left source.new) }
-        ensures cause { result ≡ Err stop.ReadFault → Rose (S.faults source.old) (S.faults source.new) }
+        ensures begun { IfOk result (λ stim. Begins inputs.now (S.left source.old)
+            (S.left source.new) stim) }
+        ensures refused { (why : StimRefusal) → result ≡ Err (stop.Refused why)
+            → (why ≡ refusal.Header) × HasNoHeader inputs.now (S.left source.old) }
+        ensures fault { result ≡ Err stop.ReadFault
+            → ReadsPart (S.left source.old) (S.left source.new) }
+        ensures ahead { ReadsAhead (longest_line inputs.now) [] (S.left source.old)
+            (S.left source.new) }
+        ensures cause { result ≡ Err stop.ReadFault
+            → Rose (S.faults source.old) (S.faults source.new) }
         ensures drained { IfOk result (λ stim. IsDrained stim.ended (S.left source.new)) }
         ensures later { S.faults source.old ≤ S.faults source.new }
     {
@@ -130,12 +137,17 @@ impl Stim {
     /// clock's. It reads the first line alone, and takes all memory. Refused carries S1, where that
     /// line is no header or there is none.
     pub fn new<S: Source>(alloc: Global, source: &mut S, flat: &Flat) -> Result<Stim, StimStop>
-        ensures begun { IfOk result (λ stim. Begins (data_inputs flat.now) (S.left source.old) (S.left source.new) stim) }
+        ensures begun { IfOk result (λ stim. Begins (data_inputs flat.now) (S.left source.old)
+            (S.left source.new) stim) }
         ensures size { IfOk result (λ stim. length stim.bits ≡ length (input_nets flat.now)) }
-        ensures refused { (why : StimRefusal) → result ≡ Err (stop.Refused why) → (why ≡ refusal.Header) × HasNoHeader (data_inputs flat.now) (S.left source.old) }
-        ensures fault { result ≡ Err stop.ReadFault → ReadsPart (S.left source.old) (S.left source.new) }
-        ensures ahead { ReadsAhead (longest_line (data_inputs flat.now)) [] (S.left source.old) (S.left source.new) }
-        ensures cause { result ≡ Err stop.ReadFault → Rose (S.faults source.old) (S.faults source.new) }
+        ensures refused { (why : StimRefusal) → result ≡ Err (stop.Refused why)
+            → (why ≡ refusal.Header) × HasNoHeader (data_inputs flat.now) (S.left source.old) }
+        ensures fault { result ≡ Err stop.ReadFault
+            → ReadsPart (S.left source.old) (S.left source.new) }
+        ensures ahead { ReadsAhead (longest_line (data_inputs flat.now)) [] (S.left source.old)
+            (S.left source.new) }
+        ensures cause { result ≡ Err stop.ReadFault
+            → Rose (S.faults source.old) (S.faults source.new) }
         ensures drained { IfOk result (λ stim. IsDrained stim.ended (S.left source.new)) }
         ensures later { S.faults source.old ≤ S.faults source.new }
     {
@@ -156,21 +168,36 @@ impl Stim {
     /// ReadFault nothing is lost, and a further call tries the source again. It reads only where the
     /// bytes that were read and not used yet hold no newline, and takes no memory.
     pub fn next<S: Source>(&mut self, source: &mut S) -> Result<bool, StimFault>
-        ensures row { result ≡ Ok true → TakesRow self.old self.new (rest self.old (S.left source.old)) (rest self.new (S.left source.new)) }
-        ensures end { result ≡ Ok false → IsAtEnd (rest self.old (S.left source.old)) × (self.new.ended ≡ true) × (self.new.unused ≡ []) }
-        ensures refused { (why : StimRefusal) → result ≡ Err (fault.Refused why) → (self.new.refused ≡ Some why) × ((self.old.refused ≡ Some why) ⊎ Refuses self.old (rest self.old (S.left source.old)) why) }
-        ensures fault { result ≡ Err fault.ReadFault → Keeps (rest self.old (S.left source.old)) (rest self.new (S.left source.new)) × Unbroken self.new.unused × (self.new.ended ≡ false) × (self.new.refused ≡ None) }
-        ensures cause { result ≡ Err fault.ReadFault → Rose (S.faults source.old) (S.faults source.new) }
+        ensures row { result ≡ Ok true
+            → TakesRow self.old self.new (rest self.old (S.left source.old)) (rest self.new
+            (S.left source.new)) }
+        ensures end { result ≡ Ok false → IsAtEnd (rest self.old (S.left source.old))
+            × (self.new.ended ≡ true) × (self.new.unused ≡ []) }
+        ensures refused { (why : StimRefusal) → result ≡ Err (fault.Refused why)
+            → (self.new.refused ≡ Some why) × ((self.old.refused ≡ Some why)
+            ⊎ Refuses self.old (rest self.old (S.left source.old)) why) }
+        ensures fault { result ≡ Err fault.ReadFault
+            → Keeps (rest self.old (S.left source.old)) (rest self.new (S.left source.new))
+            × Unbroken self.new.unused × (self.new.ended ≡ false) × (self.new.refused ≡ None) }
+        ensures cause { result ≡ Err fault.ReadFault
+            → Rose (S.faults source.old) (S.faults source.new) }
         ensures later { S.faults source.old ≤ S.faults source.new }
-        ensures again { (why : StimRefusal) → self.old.refused ≡ Some why → (result ≡ Err (fault.Refused why)) × (self.new ≡ self.old) × (source.new ≡ source.old) }
+        ensures again { (why : StimRefusal) → self.old.refused ≡ Some why
+            → (result ≡ Err (fault.Refused why)) × (self.new ≡ self.old)
+            × (source.new ≡ source.old) }
         ensures open { (more : Bool) → result ≡ Ok more → self.new.refused ≡ None }
-        ensures kept { (result ≢ Ok true) → (self.new.bits ≡ self.old.bits) × (self.new.taken ≡ self.old.taken) }
-        ensures fields { (self.new.fields ≡ self.old.fields) × (length self.new.bits ≡ length self.old.bits) }
-        ensures ahead { ReadsAhead self.old.most self.old.unused (S.left source.old) (S.left source.new) }
+        ensures kept { (result ≢ Ok true) → (self.new.bits ≡ self.old.bits)
+            × (self.new.taken ≡ self.old.taken) }
+        ensures fields { (self.new.fields ≡ self.old.fields)
+            × (length self.new.bits ≡ length self.old.bits) }
+        ensures ahead { ReadsAhead self.old.most self.old.unused (S.left source.old)
+            (S.left source.new) }
         ensures most { self.new.most ≡ self.old.most }
         ensures quiet { (Unbroken self.old.unused → ⊥) → source.new ≡ source.old }
-        ensures ended { self.old.ended ≡ true → (source.new ≡ source.old) × (self.new.ended ≡ true) }
-        ensures drained { IsDrained self.old.ended (S.left source.old) → IsDrained self.new.ended (S.left source.new) }
+        ensures ended { self.old.ended ≡ true → (source.new ≡ source.old)
+            × (self.new.ended ≡ true) }
+        ensures drained { IsDrained self.old.ended (S.left source.old)
+            → IsDrained self.new.ended (S.left source.new) }
         ensures behind { self.old.refused ≡ None → result ≡ Err (fault.Refused refusal.Header) → ⊥ }
     {
         if let Some(why) = self.refused {

@@ -1,6 +1,7 @@
 use Rattle.std.proofs.Common.{◌≡◌, ◌++◌, ◌∷◌, [], List, Bool, Ok, Err, ap, ◌∙◌, refl, arith, length-append}
 use Rattle.stim_read.specs.declared.faults.StimFault.TheVariants as stim
-use Rattle.ila_session.proofs.Taking.{takes_more, takes_same, takes_end, at_end, refuses_behind, stands_on, none_some, err_ok, false_true, counts_of}
+use Rattle.stim_read.specs.Reading.{Reading}
+use Rattle.ila_session.proofs.Taking.{takes_more, takes_same, takes_end, at_end, refuses_behind, stands_on, none_some, err_ok, ok_err, false_true, counts_of}
 use Rattle.ila_session.proofs.Running.{shows_more, shows_front}
 use Rattle.ila_session.proofs.session.show_rows.Goals as goal
 
@@ -23,8 +24,13 @@ returns-in-Ok-false-clause-done g c = λ n is.
 pub returns-in-Err-Refused-clause-refused : goal.returns-in-Err-Refused-clause-refused
 returns-in-Err-Refused-clause-refused g c = λ why is.
     let inv = c.loop-why.invariant in
-    let same : c.in-Err-Refused.why ≡ why = cc in
-    (inv.rows, refuses_behind _ _ _ _ inv.rows why inv.showed.taken (inv.open_yet why) (c.in-Err-Refused.ensures.refused why (ap Err (c.in-Err-Refused.field-0-is ∙ ap stim.Refused same))).1, inv.showed.stands, inv.lines)
+    let same : c.in-Err-Refused.why ≡ why = cc in (
+      inv.rows,
+      refuses_behind _ _ _ _ inv.rows why inv.showed.taken (λ was. (inv.open_yet why was, (inv.again why (inv.open_yet why was)).0))
+          (c.in-Err-Refused.ensures.refused why (ap Err (c.in-Err-Refused.field-0-is ∙ ap stim.Refused same))).1 _ c.in-Err-Refused.ensures.ahead,
+      inv.showed.stands,
+      inv.lines,
+    )
 
 pub returns-in-Err-ReadFault-clause-read_fault : goal.returns-in-Err-ReadFault-clause-read_fault
 returns-in-Err-ReadFault-clause-read_fault g c = λ is.
@@ -75,6 +81,7 @@ loop-why-preserved g c =
       few = omega (arith, inv.few, takes.counted);
       same = c.in_ok-show_clock.ensures.same ∙ inv.same;
       open_yet = λ why refused. absurd (none_some c.next.new.self.refused why (took.open c.in-Ok-true.field-0 refl) refused);
+      again = λ why was. absurd (ok_err _ _ (took.again why (ap (λ (r : Reading). r.refused) (inv.again why was).2 ∙ was)).0);
       size = took.fields.1 ∙ inv.size;
       long = c.show_clock.auto.line ∙ inv.long;
       showed = record {

@@ -1,4 +1,4 @@
-use Rattle.std.proofs.Common.{◌≡◌, ◌-◌, ◌≤◌, Bool, List, length, Some}
+use Rattle.std.proofs.Common.{◌≡◌, ◌-◌, ◌≤◌, Bool, List, [], length, Some}
 use Rattle.ila_base.specs.declared.refusal.StimRefusal.{StimRefusal}
 use Rattle.net_core.specs.Netlist.{input_nets}
 use Rattle.stim_read.specs.Reading.{most_rows}
@@ -14,6 +14,8 @@ invariant-loop-why g l = record {
   few : l.clocks ≤ l.stim.taken;
   same : g.M.Machine.netlist l.machine ≡ g.M.Machine.netlist l.initial.machine;
   open_yet : (why : StimRefusal) → l.stim.refused ≡ Some why → l.initial.stim.refused ≡ Some why;
+  again : (why : StimRefusal) → l.initial.stim.refused ≡ Some why
+      → (rows ≡ []) × (l.machine ≡ l.initial.machine) × (l.stim ≡ l.initial.stim) × (l.source ≡ l.initial.source) × (l.trace ≡ l.initial.trace);
   size : length l.stim.bits ≡ length (input_nets (g.M.Machine.netlist l.initial.machine));
   long : length l.line ≡ length l.pieces;
   showed : ShowedRows (g.M.Machine.netlist l.initial.machine) l.initial.stim (g.S.Source.left l.initial.source) rows (g.M.Machine.bit l.machine) (g.M.Machine.content l.machine) l.stim (g.S.Source.left l.source);

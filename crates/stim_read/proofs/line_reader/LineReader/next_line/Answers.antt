@@ -1,7 +1,7 @@
 use Rattle.std.proofs.Common.{◌≤◌, refl, arith, subst, sym, ◌∙◌, ap}
 use Rattle.std.specs.Prelude.{◌==◌}
 use Rattle.stim_read.specs.Streams.{Unbroken, between, rest_of}
-use Rattle.stim_read.proofs.Whole.{keeps_all, whole_filled, whole_line, long_line, last_line, nothing_between}
+use Rattle.stim_read.proofs.Whole.{whole, keeps_all, whole_filled, whole_line, long_line, last_line, nothing_between}
 use Rattle.stim_read.proofs.Ahead.{read_none, read_more, reads_ahead}
 use Rattle.stim_read.proofs.line_reader.LineReader.next_line.Goals as goal
 
@@ -56,7 +56,7 @@ pub loop-self-init : goal.loop-self-init
 loop-self-init g c =
     let self = c.args.self.now in
     record {
-      kept = keeps_all _;
+      kept = keeps_all (whole self.line.items (between self.buffer.items self.at self.end) self.ended (g.S.Source.left c.args.source.now));
       read = read_none self.line.items (between self.buffer.items self.at self.end) (g.S.Source.left c.args.source.now);
       most = refl;
       later = omega arith;
