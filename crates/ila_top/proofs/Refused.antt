@@ -1,7 +1,7 @@
 -- Why a netlist is refused, from the one call to the other.
-use Rattle.std.proofs.Common.{ℕ, List, Result, Ok, Err, Option, refl}
+use Rattle.std.proofs.Common.{ℕ, List, [], Result, Ok, Err, Option, refl}
 use Rattle.std.specs.Prelude.{Some, None, IfOk, IfErr, OnOk}
-use Rattle.ila_base.specs.Files.{File}
+use Rattle.ila_base.specs.Files.{File, KeepsFiles}
 use Rattle.net_core.specs.Netlist.{Netlist}
 use Rattle.net_core.specs.WellFormed.{IsFlat}
 use Rattle.vlog_lex.specs.declared.token.NetFault.{NetFault}
@@ -14,7 +14,10 @@ use Rattle.vlog_parse.specs.declared.tree.Tree.{Tree}
 use Rattle.vlog_check.specs.Checked.{IsChecked, IsRefused}
 use Rattle.elab_design.specs.Limits.{IsElabFault}
 use Rattle.elab_design.specs.Elaborates.{Elaborates}
-use Rattle.ila_top.specs.Reading.{StandsForTree, IsRead, IsReadNetOf, IsLoopFault, IsTextFault, no_tokens, no_tree, unchecked, not_unfolded, loops, design_of, net_ended, status_of, netlist}
+use Rattle.ila_top.specs.Reading.{StandsForTree, IsRead, IsReadNetOf, IsLoopFault, IsTextFault, no_tokens, no_tree, unchecked, not_unfolded, loops, design_of, status_of, netlist, Topped, IsAccepted}
+use Rattle.net_core.specs.Cycle.{HasCycle}
+use Rattle.ila_top.specs.Outside.{LeavesFiles}
+use Rattle.ila_top.specs.Simulating.{HasFlat}
 use Rattle.ila_top.specs.Stage.{Halts, plain}
 use Rattle.ila_top.proofs.Unfolded.{limits_of, unfolds_of}
 
@@ -69,3 +72,19 @@ pub netlist_halts : (bytes top clock : List ℕ) (files : Option (List File)) (a
     → Halts ((netlist bytes top clock).refuses files) a b (plain (status_of stop))
 netlist_halts bytes top clock files a b (stops.Refused fault) cause = (fault, cause, refl)
 netlist_halts bytes top clock files a b stops.NoMemory cause = refl
+
+-- the job that an accepted netlist is
+pub accepted_job : (bytes top clock : List ℕ) (tree : Tree) (net : Netlist) → IsReadNetOf bytes (design_of tree top clock) net → ¬ HasCycle net
+    → (job : Topped) × IsAccepted bytes top clock job × HasFlat job net
+accepted_job bytes top clock tree net own no_cycle =
+    let order = own.own.elaborates.order in (
+      record { design = design_of tree top clock; top = order.top },
+      record { tree = tree; is = refl; accepted = record { net = net; own = own; no_cycle = no_cycle }; is_top = order.is_top },
+      record { checked = own.own.checked; is_top = order.is_top; flat = own.own.flat; elaborates = own.own.elaborates },
+    )
+
+-- files that are kept are left without a store
+pub kept_files : (old new : Option (List File)) → KeepsFiles old new → LeavesFiles old [] new
+kept_files None new kept = tt
+kept_files (Some old) None kept = absurd kept
+kept_files (Some old) (Some new) kept = kept

@@ -1,6 +1,6 @@
 -- A design that no call refuses can be unfolded, and is within the limits; and the other way round.
 use Rattle.std.proofs.Common.{◌≡◌, ℕ, zero, suc, ◌<◌, ◌≤◌, List, [], ◌∷◌, length, Some, ◌⊎◌, inl, inr, refl, subst, arith}
-use Rattle.ila_base.specs.declared.place.Place.{Place}
+use Rattle.std.proofs.lemmas.Bool.{cases_lt}
 use Rattle.ila_base.specs.declared.refusal.LimitKind.{LimitKind}
 use Rattle.ila_base.specs.declared.refusal.LimitKind.TheVariants.{Depth, Cells, Pins, Nets, AllNames}
 use Rattle.ila_base.specs.declared.refusal.NetRefusal.{NetRefusal}
@@ -21,7 +21,7 @@ counted d kind n (depth m deepest) = (0, refl)
 counted d kind n (unfolded k groups cells among order) = (suc among.0, among.1)
 
 above_or_within : (m n : ℕ) → (m < n) ⊎ (n ≤ m)
-above_or_within m n = omega arith
+above_or_within m n = cases_lt m n
 
 module _ (d : Design) (accepted : (fault : NetFault) → IsElabFault d fault → ⊥) where
   -- the clock is there, as far as something impossible is to be shown
@@ -56,16 +56,18 @@ module _ (d : Design) (accepted : (fault : NetFault) → IsElabFault d fault →
   cells n counts = within Cells n (within_more Depth [] depths within_none) counts
 
   pins : (n : ℕ) → Counts d Pins n → n ≤ greatest Pins
-  pins n counts = within Pins n (within_more Depth _ depths (within_more Cells [] cells within_none)) counts
+  pins n counts = within Pins n (within_more Depth (Cells ∷ []) depths (within_more Cells [] cells within_none)) counts
 
   nets : (n : ℕ) → Counts d Nets n → n ≤ greatest Nets
-  nets n counts = within Nets n (within_more Depth _ depths (within_more Cells _ cells (within_more Pins [] pins within_none))) counts
+  nets n counts = within Nets n (within_more Depth (Cells ∷ Pins ∷ []) depths (within_more Cells (Pins ∷ []) cells (within_more Pins [] pins within_none))) counts
 
   names : (n : ℕ) → Counts d AllNames n → n ≤ greatest AllNames
-  names n counts = within AllNames n (within_more Depth _ depths (within_more Cells _ cells (within_more Pins _ pins (within_more Nets [] nets within_none)))) counts
+  names n counts = within AllNames n (within_more Depth (Cells ∷ Pins ∷ Nets ∷ []) depths (within_more Cells (Pins ∷ Nets ∷ []) cells (within_more Pins (Nets ∷ []) pins (within_more Nets [] nets within_none)))) counts
 
   pub limits_of : HasLimits d
-  limits_of = within_more Depth _ depths (within_more Cells _ cells (within_more Pins _ pins (within_more Nets _ nets (within_more AllNames [] names within_none))))
+  limits_of =
+      within_more Depth (Cells ∷ Pins ∷ Nets ∷ AllNames ∷ []) depths (within_more Cells (Pins ∷ Nets ∷ AllNames ∷ []) cells
+      (within_more Pins (Nets ∷ AllNames ∷ []) pins (within_more Nets (AllNames ∷ []) nets (within_more AllNames [] names within_none))))
 
   pub unfolds_of : (refusal : NetRefusal) → IsUnfoldFault d refusal → ⊥
   unfolds_of refusal (has_no_clock none) = has_clock none

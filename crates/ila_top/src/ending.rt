@@ -1,16 +1,26 @@
-ghost use Rattle.std.specs.Prelude.{◌≡◌, ◌≤◌};
+ghost use Rattle.std.specs.Prelude.{◌≡◌, ◌≤◌, [], unwrap_or};
 ghost use Rattle.ila_top.specs.Answers.{IsReported, exit_code_of};
 ghost use Rattle.ila_top.specs.Stage as stage;
 
 use crate::line::write_error;
 use crate::status::{Ended, Status};
-use ila_base::Sink;
+use ila_base::{Name, Sink};
 
 /// An ending that speaks of no core.
 pub fn plain(status: Status) -> Ended
     ensures { result ≡ stage.plain status }
 {
     Ended { status, core: None }
+}
+
+// The bytes of the name of the core that an ending speaks of, and none where it speaks of none.
+fn name_of(core: &Option<Name>) -> &[u8]
+    ensures { result.now ≡ unwrap_or core.now [] }
+{
+    match core {
+        Some(name) => name.bytes(),
+        None => b"",
+    }
 }
 
 /// Writes the error line of an ending, and gives its status. A fault of the sink changes no status.
@@ -20,10 +30,7 @@ pub fn report<E: Sink>(errors: &mut E, ended: Ended) -> Status
     ensures later { E.faults errors.old ≤ E.faults errors.new }
 {
     let Ended { status, core } = ended;
-    let _ = match &core {
-        Some(name) => write_error(errors, &status, name.bytes()),
-        None => write_error(errors, &status, b""),
-    };
+    let _ = write_error(errors, &status, name_of(&core));
     status
 }
 

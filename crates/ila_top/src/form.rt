@@ -1,5 +1,4 @@
 ghost use Rattle.std.specs.Prelude.{◌≡◌, map, string_bytes};
-ghost use Rattle.std.specs.Option.{option_map};
 ghost use Rattle.ila_top.specs.Commands.{asked};
 ghost use Rattle.ila_top.specs.Words.{asked_of};
 
@@ -14,20 +13,22 @@ pub struct Sim<'a> {
 /// What the words of a command line ask for.
 #[derive(Clone, Copy)]
 pub enum Command<'a> {
+    /// The words are of no command.
+    Usage,
     /// `sim NETLIST TOP CLOCK`
     Sim(Sim<'a>),
 }
 
-/// The command that the words are of. None comes exactly where they are of no command.
-pub fn command_of(words: &[String]) -> Option<Command<'_>>
-    ensures { option_map asked_of result ≡ asked (map string_bytes words.now) }
+/// The command that the words are of.
+pub fn command_of(words: &[String]) -> Command<'_>
+    ensures { asked_of result ≡ asked (map string_bytes words.now) }
 {
     match words {
-        [word, netlist, top, clock] if word.as_str() == "sim" => Some(Command::Sim(Sim {
+        [word, netlist, top, clock] if word.as_str() == "sim" => Command::Sim(Sim {
             netlist: netlist.as_str(),
             top: top.as_str(),
             clock: clock.as_str(),
-        })),
-        _ => None,
+        }),
+        _ => Command::Usage,
     }
 }

@@ -29,8 +29,8 @@ fn answer<H: Shelf, S: Source, K: Sink>(
         (outside_of H.Shelf S.Source K.Sink shelf.new stimulus.new trace.new) }
 {
     match command_of(words) {
-        Some(Command::Sim(words)) => sim(alloc, &words, shelf, stimulus, trace),
-        None => plain(Status::Usage),
+        Command::Sim(words) => sim(alloc, &words, shelf, stimulus, trace),
+        Command::Usage => plain(Status::Usage),
     }
 }
 
