@@ -5,7 +5,7 @@ mod files;
 mod streams;
 
 use files::FileShelf;
-use ila_top::{Status, exit_code, ila, report};
+use ila_top::{Status, exit_code, ila, plain, report};
 use std::process::ExitCode;
 use std::{env, io};
 use streams::{ReadSource, WriteSink};
@@ -26,7 +26,7 @@ fn main(rt: HostRuntime) -> ExitCode {
                 &mut errors,
             )
         }
-        Err(status) => report(&mut errors, status),
+        Err(status) => report(&mut errors, plain(status)),
     };
     ExitCode::from(exit_code(&status))
 }

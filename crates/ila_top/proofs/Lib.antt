@@ -1,8 +1,11 @@
-pub mod Accepted
-pub mod Complete
+pub mod AnswerLaws
 pub mod Cycles
 pub mod Lines
-pub mod Refused
-pub mod Taken
+pub mod LoadLaws
+pub mod MeaningLaws
 pub mod OneText
-pub mod OneAnswer
+pub mod Refused
+pub mod SimLaws
+pub mod StageLaws
+pub mod Taken
+pub mod Unfolded

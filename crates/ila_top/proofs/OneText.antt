@@ -16,10 +16,12 @@ use Rattle.vlog_check.specs.Checked.{IsChecked, IsRefused}
 use Rattle.elab_design.specs.Design.{Design}
 use Rattle.elab_design.specs.Limits.{IsElabFault}
 use Rattle.elab_design.specs.Elaborates.{Elaborates}
-use Rattle.ila_top.specs.Reading.{StandsForTree, IsNetOf, IsLoopFault, IsTextFault, no_tokens, no_tree, unchecked, not_unfolded, loops, IsAcceptedText, design_of, nowhere}
+use Rattle.ila_top.specs.Reading.{IsRead, IsReadNetOf, IsLoopFault, IsTextFault, no_tokens, no_tree, unchecked, not_unfolded, loops, IsAcceptedText, design_of}
+use Rattle.ila_base.specs.declared.place.TheConstants.Place.{NOWHERE}
 use Rattle.ila_top.specs.declared.status.Status.{Status}
 use Rattle.ila_top.specs.declared.status.Status.TheVariants.{Netlist as RefusedNetlist}
-use Rattle.ila_top.specs.Sentences.{AreSame, same, cycles}
+use Rattle.ila_top.proofs.Unfolded.{clear_of}
+use Rattle.ila_top.specs.Same.{AreSame, same, cycles}
 
 -- what the steps below say of one text: one list of tokens, one tree, one refusal each, one flat netlist
 pub record TextLaws : Type 0 where
@@ -79,44 +81,44 @@ to_same fault other is = subst (λ f. AreSame (answer_to fault) (answer_to f)) i
 loop_same : (net also : Netlist) (fault other : NetFault) → IsLoopFault net fault → IsLoopFault also other → AreSame (answer_to fault) (answer_to other)
 loop_same net also fault other first second =
     subst (λ f. AreSame (answer_to f) (answer_to other)) (sym first.is)
-    (subst (λ f. AreSame (RefusedNetlist (Loop first.names) nowhere) (answer_to f)) (sym second.is) (cycles first.names second.names nowhere))
+    (subst (λ f. AreSame (RefusedNetlist (Loop first.names) NOWHERE) (answer_to f)) (sym second.is) (cycles first.names second.names NOWHERE))
 
 module _ (laws : TextLaws) (text : List ℕ) where
   -- a text with a fault in its bytes has no tokens to its end
   cut_off : (tokens others : List Token) (fault : NetFault) → IsReading text tokens (Some fault) → IsReading text others None → ⊥
   cut_off tokens others fault first second = let e : Some fault ≡ None = (laws.reading text tokens others (Some fault) None first second).1 in cc e
 
-  pub same_tree : (tree other : Tree) → StandsForTree text tree → StandsForTree text other → tree ≡ other
+  pub same_tree : (tree other : Tree) → IsRead text tree → IsRead text other → tree ≡ other
   same_tree tree other first second =
       let tokens : first.tokens ≡ second.tokens = (laws.reading text first.tokens second.tokens None None first.cut second.cut).0 in
       laws.tree text second.tokens tree other (subst (λ (ts : List Token). IsDesign text ts tree) tokens first.read_as.design) second.read_as.design
 
   -- a text whose tokens are refused stands for no tree
-  no_syntax : (tokens : List Token) (tree : Tree) (fault : NetFault) → IsReading text tokens None → IsRefusal text tokens fault → StandsForTree text tree → ⊥
+  no_syntax : (tokens : List Token) (tree : Tree) (fault : NetFault) → IsReading text tokens None → IsRefusal text tokens fault → IsRead text tree → ⊥
   no_syntax tokens tree fault reads refused stands =
       let same : tokens ≡ stands.tokens = (laws.reading text tokens stands.tokens None None reads stands.cut).0 in
       laws.no_refusal text stands.tokens tree fault stands.read_as (subst (λ (ts : List Token). IsRefusal text ts fault) same refused)
 
-  no_check : (top : List ℕ) (tree other : Tree) (fault : NetFault) → StandsForTree text tree → IsRefused tree top fault → StandsForTree text other → IsChecked other top → ⊥
+  no_check : (top : List ℕ) (tree other : Tree) (fault : NetFault) → IsRead text tree → IsRefused tree top fault → IsRead text other → IsChecked other top → ⊥
   no_check top tree other fault stands refused also checked =
       laws.no_finding other top fault checked (subst (λ (t : Tree). IsRefused t top fault) (same_tree tree other stands also) refused)
 
-  no_fault : (top clock : List ℕ) (tree other : Tree) (net : Netlist) (fault : NetFault) → StandsForTree text tree → IsElabFault (design_of tree top clock) fault
-      → IsNetOf text (design_of other top clock) net → ⊥
+  no_fault : (top clock : List ℕ) (tree other : Tree) (net : Netlist) (fault : NetFault) → IsRead text tree → IsElabFault (design_of tree top clock) fault
+      → IsReadNetOf text (design_of other top clock) net → ⊥
   no_fault top clock tree other net fault stands refused own =
-      own.unfolds fault (subst (λ (t : Tree). IsElabFault (design_of t top clock) fault) (same_tree tree other stands own.stands_for) refused)
+      clear_of (design_of other top clock) own.own.unfolds own.limits fault (subst (λ (t : Tree). IsElabFault (design_of t top clock) fault) (same_tree tree other stands own.read) refused)
 
-  no_loop : (top clock : List ℕ) (tree other : Tree) (net also : Netlist) (fault : NetFault) → IsNetOf text (design_of tree top clock) net → IsLoopFault net fault
-      → IsNetOf text (design_of other top clock) also → ¬ HasCycle also → ⊥
+  no_loop : (top clock : List ℕ) (tree other : Tree) (net also : Netlist) (fault : NetFault) → IsReadNetOf text (design_of tree top clock) net → IsLoopFault net fault
+      → IsReadNetOf text (design_of other top clock) also → ¬ HasCycle also → ⊥
   no_loop top clock tree other net also fault own loop accepted free =
-      let same : tree ≡ other = same_tree tree other own.stands_for accepted.stands_for in
-      let moved : Elaborates (design_of other top clock) net = subst (λ (t : Tree). Elaborates (design_of t top clock) net) same own.elaborates in
-      free (loop.loops.nets, cycle_on net also own.flat accepted.flat (laws.flat (design_of other top clock) net also accepted.checked moved accepted.elaborates) loop.loops.nets loop.loops.cycle)
+      let same : tree ≡ other = same_tree tree other own.read accepted.read in
+      let moved : Elaborates (design_of other top clock) net = subst (λ (t : Tree). Elaborates (design_of t top clock) net) same own.own.elaborates in
+      free (loop.loops.nets, cycle_on net also own.own.flat accepted.own.flat (laws.flat (design_of other top clock) net also accepted.own.checked moved accepted.own.elaborates) loop.loops.nets loop.loops.cycle)
 
   pub accepted_clear : (top clock : List ℕ) (tree : Tree) (fault : NetFault) → IsAcceptedText text (design_of tree top clock) → IsTextFault text top clock fault → ⊥
-  accepted_clear top clock tree fault accepted (no_tokens tokens reads) = cut_off tokens accepted.own.stands_for.tokens fault reads accepted.own.stands_for.cut
-  accepted_clear top clock tree fault accepted (no_tree tokens reads refused) = no_syntax tokens tree fault reads refused accepted.own.stands_for
-  accepted_clear top clock tree fault accepted (unchecked other stands refused) = no_check top other tree fault stands refused accepted.own.stands_for accepted.own.checked
+  accepted_clear top clock tree fault accepted (no_tokens tokens reads) = cut_off tokens accepted.own.read.tokens fault reads accepted.own.read.cut
+  accepted_clear top clock tree fault accepted (no_tree tokens reads refused) = no_syntax tokens tree fault reads refused accepted.own.read
+  accepted_clear top clock tree fault accepted (unchecked other stands refused) = no_check top other tree fault stands refused accepted.own.read accepted.own.own.checked
   accepted_clear top clock tree fault accepted (not_unfolded other stands checked refused) = no_fault top clock other tree accepted.net fault stands refused accepted.own
   accepted_clear top clock tree fault accepted (loops other net own loop) = no_loop top clock other tree net accepted.net fault own loop accepted.own accepted.no_cycle
 
@@ -127,11 +129,11 @@ module _ (laws : TextLaws) (text : List ℕ) where
         let same : tokens ≡ others = (laws.reading text tokens others None None reads also).0 in
         laws.refusal text others fault other (subst (λ (ts : List Token). IsRefusal text ts fault) same first) second
 
-    both_found : (fault other : NetFault) (tree also : Tree) → StandsForTree text tree → IsRefused tree top fault → StandsForTree text also → IsRefused also top other → fault ≡ other
+    both_found : (fault other : NetFault) (tree also : Tree) → IsRead text tree → IsRefused tree top fault → IsRead text also → IsRefused also top other → fault ≡ other
     both_found fault other tree also stands first again second =
         laws.finding text again.tokens also top fault other again.cut again.read_as (subst (λ (t : Tree). IsRefused t top fault) (same_tree tree also stands again) first) second
 
-    both_unfolded : (fault other : NetFault) (tree also : Tree) → StandsForTree text tree → IsElabFault (design_of tree top clock) fault → StandsForTree text also → IsChecked also top
+    both_unfolded : (fault other : NetFault) (tree also : Tree) → IsRead text tree → IsElabFault (design_of tree top clock) fault → IsRead text also → IsChecked also top
         → IsElabFault (design_of also top clock) other → fault ≡ other
     both_unfolded fault other tree also stands first again checked second =
         laws.elaboration (design_of also top clock) fault other checked
@@ -143,24 +145,24 @@ module _ (laws : TextLaws) (text : List ℕ) where
     one_fault fault other (no_tokens tokens reads) (no_tree others also _) = absurd (cut_off tokens others fault reads also)
     one_fault fault other (no_tokens tokens reads) (unchecked tree stands _) = absurd (cut_off tokens stands.tokens fault reads stands.cut)
     one_fault fault other (no_tokens tokens reads) (not_unfolded tree stands _ _) = absurd (cut_off tokens stands.tokens fault reads stands.cut)
-    one_fault fault other (no_tokens tokens reads) (loops tree net own _) = absurd (cut_off tokens own.stands_for.tokens fault reads own.stands_for.cut)
+    one_fault fault other (no_tokens tokens reads) (loops tree net own _) = absurd (cut_off tokens own.read.tokens fault reads own.read.cut)
     one_fault fault other (no_tree tokens reads _) (no_tokens others also) = absurd (cut_off others tokens other also reads)
     one_fault fault other (no_tree tokens reads first) (no_tree others also second) = to_same fault other (both_refused fault other tokens others reads first also second)
     one_fault fault other (no_tree tokens reads refused) (unchecked tree stands _) = absurd (no_syntax tokens tree fault reads refused stands)
     one_fault fault other (no_tree tokens reads refused) (not_unfolded tree stands _ _) = absurd (no_syntax tokens tree fault reads refused stands)
-    one_fault fault other (no_tree tokens reads refused) (loops tree net own _) = absurd (no_syntax tokens tree fault reads refused own.stands_for)
+    one_fault fault other (no_tree tokens reads refused) (loops tree net own _) = absurd (no_syntax tokens tree fault reads refused own.read)
     one_fault fault other (unchecked tree stands _) (no_tokens others also) = absurd (cut_off others stands.tokens other also stands.cut)
     one_fault fault other (unchecked tree stands _) (no_tree others also refused) = absurd (no_syntax others tree other also refused stands)
     one_fault fault other (unchecked tree stands first) (unchecked also again second) = to_same fault other (both_found fault other tree also stands first again second)
     one_fault fault other (unchecked tree stands first) (not_unfolded also again checked _) = absurd (no_check top tree also fault stands first again checked)
-    one_fault fault other (unchecked tree stands first) (loops also net own _) = absurd (no_check top tree also fault stands first own.stands_for own.checked)
+    one_fault fault other (unchecked tree stands first) (loops also net own _) = absurd (no_check top tree also fault stands first own.read own.own.checked)
     one_fault fault other (not_unfolded tree stands _ _) (no_tokens others also) = absurd (cut_off others stands.tokens other also stands.cut)
     one_fault fault other (not_unfolded tree stands _ _) (no_tree others also refused) = absurd (no_syntax others tree other also refused stands)
     one_fault fault other (not_unfolded tree stands checked _) (unchecked also again second) = absurd (no_check top also tree other again second stands checked)
     one_fault fault other (not_unfolded tree stands _ first) (not_unfolded also again checked second) = to_same fault other (both_unfolded fault other tree also stands first again checked second)
     one_fault fault other (not_unfolded tree stands _ first) (loops also net own _) = absurd (no_fault top clock tree also net fault stands first own)
-    one_fault fault other (loops tree net own _) (no_tokens others also) = absurd (cut_off others own.stands_for.tokens other also own.stands_for.cut)
-    one_fault fault other (loops tree net own _) (no_tree others also refused) = absurd (no_syntax others tree other also refused own.stands_for)
-    one_fault fault other (loops tree net own _) (unchecked also again second) = absurd (no_check top also tree other again second own.stands_for own.checked)
+    one_fault fault other (loops tree net own _) (no_tokens others also) = absurd (cut_off others own.read.tokens other also own.read.cut)
+    one_fault fault other (loops tree net own _) (no_tree others also refused) = absurd (no_syntax others tree other also refused own.read)
+    one_fault fault other (loops tree net own _) (unchecked also again second) = absurd (no_check top also tree other again second own.read own.own.checked)
     one_fault fault other (loops tree net own _) (not_unfolded also again _ second) = absurd (no_fault top clock also tree net other again second own)
     one_fault fault other (loops tree net own first) (loops also another more second) = loop_same net another fault other first second

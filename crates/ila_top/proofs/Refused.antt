@@ -1,6 +1,7 @@
 -- Why a netlist is refused, from the one call to the other.
-use Rattle.std.proofs.Common.{ℕ, List, Result, Ok, Err, inl, inr}
+use Rattle.std.proofs.Common.{ℕ, List, [], Result, Ok, Err, Option, refl}
 use Rattle.std.specs.Prelude.{Some, None, IfOk, IfErr, OnOk}
+use Rattle.ila_base.specs.Files.{File, KeepsFiles}
 use Rattle.net_core.specs.Netlist.{Netlist}
 use Rattle.net_core.specs.WellFormed.{IsFlat}
 use Rattle.ila_base.specs.declared.fault.NetFault.{NetFault}
@@ -14,10 +15,12 @@ use Rattle.vlog_parse.specs.declared.tree.Tree.{Tree}
 use Rattle.vlog_check.specs.Checked.{IsChecked, IsRefused}
 use Rattle.elab_design.specs.Limits.{IsElabFault}
 use Rattle.elab_design.specs.Elaborates.{Elaborates}
-use Rattle.ila_top.specs.declared.status.Status.{Status}
-use Rattle.ila_top.specs.declared.status.Status.TheVariants.{Netlist as NetStatus, NoFile, ShelfFault, NoMemory}
-use Rattle.ila_top.specs.Reading.{StandsForTree, IsNetOf, IsLoopFault, IsTextFault, no_tokens, no_tree, unchecked, not_unfolded, loops, design_of, status_of}
-use Rattle.ila_top.specs.Answers.{Outside, SimWords, IsLoaded, LoadCause, SimCause}
+use Rattle.ila_top.specs.Reading.{StandsForTree, IsRead, IsReadNetOf, IsLoopFault, IsTextFault, no_tokens, no_tree, unchecked, not_unfolded, loops, design_of, status_of, netlist, Topped, IsAccepted}
+use Rattle.net_core.specs.Cycle.{HasCycle}
+use Rattle.ila_top.specs.Outside.{LeavesFiles}
+use Rattle.ila_top.specs.Simulating.{HasFlat}
+use Rattle.ila_top.specs.Stage.{Halts, plain}
+use Rattle.ila_top.proofs.Unfolded.{limits_of, unfolds_of}
 
 -- a stop for one cause is a stop for another that follows from it
 stops_too : (P Q : NetFault → Type 0) → ((fault : NetFault) → P fault → Q fault) → (stop : NetStop) → StopsFor P stop → StopsFor Q stop
@@ -36,40 +39,53 @@ module _ (text top clock : List ℕ) where
   parse_refused_by tokens (Ok _) reading refused = tt
   parse_refused_by tokens (Err stop) reading refused = parse_refused tokens stop reading refused
 
-  pub check_refused : (tree : Tree) (stop : NetStop) → StandsForTree text tree → StopsFor (IsRefused tree top) stop → StopsFor (IsTextFault text top clock) stop
+  pub check_refused : (tree : Tree) (stop : NetStop) → IsRead text tree → StopsFor (IsRefused tree top) stop → StopsFor (IsTextFault text top clock) stop
   check_refused tree stop stands = stops_too _ _ (λ fault refused. unchecked tree stands refused) stop
 
-  pub unfold_refused : (tree : Tree) (stop : NetStop) → StandsForTree text tree → IsChecked tree top → StopsFor (IsElabFault (design_of tree top clock)) stop
+  pub unfold_refused : (tree : Tree) (stop : NetStop) → IsRead text tree → IsChecked tree top → StopsFor (IsElabFault (design_of tree top clock)) stop
       → StopsFor (IsTextFault text top clock) stop
   unfold_refused tree stop stands checked = stops_too _ _ (λ fault refused. not_unfolded tree stands checked refused) stop
 
-  pub unfold_refused_by : {X : Type 0} (tree : Tree) (r : Result X NetStop) → StandsForTree text tree → IsChecked tree top
+  pub unfold_refused_by : {X : Type 0} (tree : Tree) (r : Result X NetStop) → IsRead text tree → IsChecked tree top
       → IfErr r (StopsFor (IsElabFault (design_of tree top clock))) → IfErr r (StopsFor (IsTextFault text top clock))
   unfold_refused_by tree (Ok _) stands checked refused = tt
   unfold_refused_by tree (Err stop) stands checked refused = unfold_refused tree stop stands checked refused
 
   -- what a checked tree is flattened to is the flat netlist of the text's design
-  pub net_of : (tree : Tree) (r : Result Netlist NetStop) → StandsForTree text tree → IsChecked tree top → IfOk r (Elaborates (design_of tree top clock)) → IfOk r IsFlat
-      → OnOk r ((fault : NetFault) → ¬ IsElabFault (design_of tree top clock) fault) → IfOk r (λ flat. (own : Tree) × IsNetOf text (design_of own top clock) flat)
-  net_of tree (Ok flat) stands checked elaborates kept unfolds =
-      (tree, record { stands_for = stands; checked = checked; unfolds = unfolds; flat = kept; elaborates = elaborates })
-  net_of tree (Err stop) stands checked elaborates kept unfolds = tt
+  pub net_of : (tree : Tree) (r : Result Netlist NetStop) → StandsForTree text tree → IsRead text tree → IsChecked tree top → IfOk r (Elaborates (design_of tree top clock)) → IfOk r IsFlat
+      → OnOk r ((fault : NetFault) → ¬ IsElabFault (design_of tree top clock) fault) → IfOk r (λ flat. (own : Tree) × IsReadNetOf text (design_of own top clock) flat)
+  net_of tree (Ok flat) stands read checked elaborates kept accepted = (
+    tree,
+    record {
+      own = record { stands_for = stands; checked = checked; unfolds = unfolds_of (design_of tree top clock) accepted; flat = kept; elaborates = elaborates };
+      read = read;
+      limits = limits_of (design_of tree top clock) accepted;
+    },
+  )
+  net_of tree (Err stop) stands read checked elaborates kept accepted = tt
 
-  pub loop_refused : (tree : Tree) (net : Netlist) (stop : NetStop) → IsNetOf text (design_of tree top clock) net → StopsFor (IsLoopFault net) stop
+  pub loop_refused : (tree : Tree) (net : Netlist) (stop : NetStop) → IsReadNetOf text (design_of tree top clock) net → StopsFor (IsLoopFault net) stop
       → StopsFor (IsTextFault text top clock) stop
   loop_refused tree net stop own = stops_too _ _ (λ fault refused. loops tree net own refused) stop
 
--- A text that is refused, where its file holds it.
-pub text_refused : (sim : SimWords) (before after : Outside) (text : List ℕ) (stop : NetStop) → IsLoaded before sim text
-    → StopsFor (IsTextFault text sim.top sim.clock) stop → SimCause sim before after (status_of stop)
-text_refused sim before after text (stops.Refused fault) loaded cause = inr (text, loaded, cause)
-text_refused sim before after text stops.NoMemory loaded cause = tt
+-- a netlist that isn't accepted ends the command so
+pub netlist_halts : (bytes top clock : List ℕ) (files : Option (List File)) (a b : ℕ) (stop : NetStop) → StopsFor (IsTextFault bytes top clock) stop
+    → Halts ((netlist bytes top clock).refuses files) a b (plain (status_of stop))
+netlist_halts bytes top clock files a b (stops.Refused fault) cause = (fault, cause, refl)
+netlist_halts bytes top clock files a b stops.NoMemory cause = refl
 
--- A file that isn't loaded.
-pub load_refused : (sim : SimWords) (before after : Outside) (status : Status) → LoadCause sim.netlist before.files before.shelf_faults after.shelf_faults status
-    → SimCause sim before after status
-load_refused sim before after ShelfFault cause = cause
-load_refused sim before after (NoFile missing) cause = cause
-load_refused sim before after (NetStatus refusal place) cause = inl cause
-load_refused sim before after NoMemory cause = tt
-load_refused sim before after _ cause = absurd cause
+-- the job that an accepted netlist is
+pub accepted_job : (bytes top clock : List ℕ) (tree : Tree) (net : Netlist) → IsReadNetOf bytes (design_of tree top clock) net → ¬ HasCycle net
+    → (job : Topped) × IsAccepted bytes top clock job × HasFlat job net
+accepted_job bytes top clock tree net own no_cycle =
+    let order = own.own.elaborates.order in (
+      record { design = design_of tree top clock; top = order.top },
+      record { tree = tree; is = refl; accepted = record { net = net; own = own; no_cycle = no_cycle }; is_top = order.is_top },
+      record { checked = own.own.checked; is_top = order.is_top; flat = own.own.flat; elaborates = own.own.elaborates },
+    )
+
+-- files that are kept are left without a store
+pub kept_files : (old new : Option (List File)) → KeepsFiles old new → LeavesFiles old [] new
+kept_files None new kept = tt
+kept_files (Some old) None kept = absurd kept
+kept_files (Some old) (Some new) kept = kept

@@ -6,7 +6,6 @@ use Rattle.std.specs.Io.KnownBytes.{Keeps, IsAtEnd, prepend_known}
 use Rattle.ila_base.specs.Faults.{Rose}
 use Rattle.ila_base.specs.declared.refusal.StimRefusal.{StimRefusal}
 use Rattle.ila_base.specs.declared.refusal.StimRefusal.TheVariants.{Header, Line, Limit}
-use Rattle.vlog_parse.specs.declared.tree.Module.{Module}
 use Rattle.stim_read.specs.declared.inputs.DataInput.{DataInput}
 use Rattle.stim_read.specs.declared.inputs.Field.{Field}
 use Rattle.stim_read.specs.Stimulus.{widths_of, fields_of}
@@ -14,13 +13,14 @@ use Rattle.stim_read.specs.Reading.{Reading, rest, Refuses, RefusesLine, IsSomeR
 use Rattle.stim_read.specs.Streams.{Unbroken, rest_of}
 use Rattle.stim_read.specs.Refused.{IsRefusedBehind}
 use Rattle.stim_read.specs.RowLaws.{HasTaken, begun_taken, taken_all}
-use Rattle.elab_design.specs.Design.{Design}
 use Rattle.ila_session.specs.Shown.{TakesRows, ReadsOnlyPart, RefusesBehind}
-use Rattle.design_text.specs.DesignText.{design_inputs, ShowsDesign}
+use Rattle.design_text.specs.DesignText.{ShowsDesign}
 use Rattle.ila_top.specs.declared.status.Status.{Status}
 use Rattle.ila_top.specs.declared.status.Status.TheVariants.{Stimulus, ReadFault, NoMemory}
 use Rattle.ila_top.specs.Rows.{BeginsIfTold, HasRowsIfTold, RefusesIfTold, ReadsRowsIfTold}
-use Rattle.ila_top.specs.Answers.{Streams, SimAnswer, BeginAnswer}
+use Rattle.ila_top.specs.Outside.{Streams}
+use Rattle.ila_top.specs.Reading.{Topped}
+use Rattle.ila_top.specs.Simulating.{SimStreams, BeginAnswer, OnlyBegins, inputs_of}
 
 module _ (inputs : List DataInput) (start : Option (List ℕ)) (reading : Reading) (rows : List (List Bool)) where
   pub rows_begin : (text : Option (List ℕ)) (after : Reading) (later : Option (List ℕ)) → HasBegun inputs text start reading → TakesRows reading start rows after later
@@ -105,18 +105,18 @@ pub rose_since : (a b c : ℕ) → a ≤ b → Rose b c → Rose a c
 rose_since a b c before rose = omega (arith, before, rose)
 
 -- A line behind a header is refused: what stands then.
-pub answer_refused : (d : Design) (top : Module) (before after : Streams) (why : StimRefusal) → (why ≡ Header → ⊥) → (rows : List (List Bool))
-    → RefusesIfTold (design_inputs top d.clock) before.left rows why → ShowsDesign d rows before.written after.written → SimAnswer d top before after (Stimulus why)
-answer_refused d top before after Header behind rows told shown = absurd (behind refl)
-answer_refused d top before after (Line n) behind rows told shown = (rows, told, shown)
-answer_refused d top before after (Limit n) behind rows told shown = (rows, told, shown)
+pub answer_refused : {S K : Type 0} (job : Topped) (before after : Streams S K) (why : StimRefusal) → (why ≡ Header → ⊥) → (rows : List (List Bool))
+    → RefusesIfTold (inputs_of job) before.left rows why → ShowsDesign job.design rows before.written after.written → SimStreams job before after (Stimulus why)
+answer_refused job before after Header behind rows told shown = absurd (behind refl)
+answer_refused job before after (Line n) behind rows told shown = (rows, told, shown)
+answer_refused job before after (Limit n) behind rows told shown = (rows, told, shown)
 
 -- The header isn't read: what stands then, where the trace is as it was.
-pub answer_begin : (d : Design) (top : Module) (before after : Streams) (inputs : List DataInput) (status : Status) → inputs ≡ design_inputs top d.clock
-    → Keeps before.written after.written → BeginAnswer inputs before.left after.left before.read_faults after.read_faults status → SimAnswer d top before after status
-answer_begin d top before after inputs (Stimulus Header) same keeps answer = subst (λ i. BeginAnswer i before.left after.left before.read_faults after.read_faults (Stimulus Header)) same answer
-answer_begin d top before after inputs (Stimulus (Line _)) same keeps answer = absurd answer
-answer_begin d top before after inputs (Stimulus (Limit _)) same keeps answer = absurd answer
-answer_begin d top before after inputs ReadFault same keeps answer = (answer.0, inl (answer.1, keeps))
-answer_begin d top before after inputs NoMemory same keeps answer = tt
-answer_begin d top before after inputs _ same keeps answer = absurd answer
+pub answer_begin : {S K : Type 0} (job : Topped) (before after : Streams S K) (status : Status) → OnlyBegins job before after
+    → BeginAnswer (inputs_of job) before.left after.left before.read_faults after.read_faults status → SimStreams job before after status
+answer_begin job before after (Stimulus Header) begins answer = (answer, begins)
+answer_begin job before after (Stimulus (Line _)) begins answer = absurd answer
+answer_begin job before after (Stimulus (Limit _)) begins answer = absurd answer
+answer_begin job before after ReadFault begins answer = (answer.0, inl (answer.1, begins))
+answer_begin job before after NoMemory begins answer = begins
+answer_begin job before after _ begins answer = absurd answer

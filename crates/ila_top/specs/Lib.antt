@@ -1,5 +1,12 @@
 pub mod Answers
+pub mod Commands
 pub mod ErrorLine
+pub mod Loading
+pub mod Meaning
+pub mod Outside
 pub mod Reading
 pub mod Rows
-pub mod Sentences
+pub mod Same
+pub mod Simulating
+pub mod Stage
+pub mod Words

@@ -1,5 +1,6 @@
-ghost use Rattle.std.specs.Prelude.{◌≡◌, map, Some, None, string_bytes, MatchOption};
-ghost use Rattle.ila_top.specs.Answers.{sim_words};
+ghost use Rattle.std.specs.Prelude.{◌≡◌, map, string_bytes};
+ghost use Rattle.ila_top.specs.Commands.{asked};
+ghost use Rattle.ila_top.specs.Words.{asked_of};
 
 /// The words behind `sim`.
 #[derive(Clone, Copy)]
@@ -9,17 +10,25 @@ pub struct Sim<'a> {
     pub clock: &'a str,
 }
 
-/// The words of `sim NETLIST TOP CLOCK`. None comes exactly where the words are of no command.
-pub fn sim_of(words: &[String]) -> Option<Sim<'_>>
-    ensures { MatchOption result (sim_words (map string_bytes words.now) ≡ None)
-        (λ sim. sim_words (map string_bytes words.now) ≡ Some (record { netlist = sim.netlist.now; top = sim.top.now; clock = sim.clock.now })) }
+/// What the words of a command line ask for.
+#[derive(Clone, Copy)]
+pub enum Command<'a> {
+    /// The words are of no command.
+    Usage,
+    /// `sim NETLIST TOP CLOCK`
+    Sim(Sim<'a>),
+}
+
+/// The command that the words are of.
+pub fn command_of(words: &[String]) -> Command<'_>
+    ensures { asked_of result ≡ asked (map string_bytes words.now) }
 {
     match words {
-        [word, netlist, top, clock] if word.as_str() == "sim" => Some(Sim {
+        [word, netlist, top, clock] if word.as_str() == "sim" => Command::Sim(Sim {
             netlist: netlist.as_str(),
             top: top.as_str(),
             clock: clock.as_str(),
         }),
-        _ => None,
+        _ => Command::Usage,
     }
 }

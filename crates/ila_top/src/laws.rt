@@ -1,8 +1,9 @@
 //! What the sentences of the answers say of one another.
 
-ghost use Rattle.ila_top.specs.Answers.{Outside, SimWords};
-ghost use Rattle.ila_top.specs.Sentences.{IsTold, Sentence, AreSame};
-ghost use Rattle.ila_top.specs.declared.status.Status.{Status as StatusOf};
+ghost use Rattle.std.specs.Prelude.{ℕ, List, Option};
+ghost use Rattle.ila_top.specs.Commands.{SimWords};
+ghost use Rattle.ila_top.specs.Meaning.{IsExactMeaning};
+ghost use Rattle.ila_top.specs.Simulating.{sim};
 
 use design_text::inputs_agree;
 use elab_design::{one_fault, one_flat};
@@ -12,9 +13,9 @@ use vlog_lex::one_reading;
 use vlog_parse::{one_refusal as one_syntax_refusal, one_tree};
 use vlog_places::one_refusal_of_text;
 
-/// Where the files and the stimulus are told, the sentence of one answer holds at most.
-pub fn one_answer()
-    ensures { (sim : SimWords) (before : Outside) (one : StatusOf) (other : StatusOf) → IsTold before → Sentence sim before one → Sentence sim before other → AreSame one other }
+/// What `sim` means is exact: where the files and the stimulus are told, the sentence of one answer holds at most.
+pub fn sim_is_exact()
+    ensures { (words : SimWords) → IsExactMeaning (sim words) }
 {
     one_reading();
     one_tree();

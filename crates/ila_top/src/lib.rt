@@ -14,9 +14,9 @@ mod simulate;
 mod status;
 mod top;
 
-pub use ending::{exit_code, report};
-pub use laws::one_answer;
-pub use status::Status;
+pub use ending::{exit_code, plain, report};
+pub use laws::sim_is_exact;
+pub use status::{Ended, Status};
 pub use top::ila;
 
 #[cfg(test)]

@@ -4,18 +4,19 @@ ghost use Rattle.std.specs.Prelude.{◌≡◌, ◌≤◌, ℕ, List, length, IfO
 ghost use Rattle.net_core.specs.Netlist.{numbers};
 ghost use Rattle.net_core.specs.WellFormed.{IsFlat};
 ghost use Rattle.net_core.specs.Cycle.{IsCycle, HasCycle};
-ghost use Rattle.net_levels.specs.Levels.{AreLevels, BeginsLeast};
+ghost use Rattle.net_graph.specs.Lists.{BeginsLeast};
+ghost use Rattle.net_levels.specs.Levels.{AreLevels};
 ghost use Rattle.ila_base.specs.declared.fault.NetFault.{NetFault as FaultOf};
 ghost use Rattle.ila_base.specs.Stops.{StopsFor};
 ghost use Rattle.vlog_parse.specs.declared.tree.Tree.{Tree as TreeOf};
 ghost use Rattle.vlog_parse.specs.ReadTree.{IsReadTree};
-ghost use Rattle.ila_top.specs.Reading.{StandsForTree, IsNetOf, IsTextFault, IsLoopFault, design_of};
-ghost use Rattle.ila_top.specs.Answers.{most_bytes};
+ghost use Rattle.ila_top.specs.Reading.{StandsForTree, IsRead, IsReadNetOf, IsTextFault, IsLoopFault, design_of};
+ghost use Rattle.ila_top.specs.Loading.{most_bytes};
+ghost use Rattle.ila_top.specs.declared.load.FileKind.TheVariants as kinds;
 
 use elab_flat::flatten;
-use flat_settle::net_names;
 use ila_base::{NetFault, NetRefusal, NetStop, Place};
-use net_core::{Flat, NetId};
+use net_core::{Flat, NetId, net_names};
 use net_levels::calls::levels;
 use net_levels::types::{LevelFault, Levels};
 use std::alloc::Global;
@@ -25,9 +26,10 @@ use vlog_parse::{Tree, parse};
 
 // The tree of a text.
 fn tree_of(alloc: Global, bytes: &[u8]) -> Result<Tree, NetStop>
-    requires { length bytes.now ≤ most_bytes }
-    ensures stands { IfOk result (λ tree. StandsForTree bytes.now tree) }
-    ensures read { IfOk result IsReadTree }
+    requires { length bytes.now ≤ most_bytes kinds.Netlist }
+    ensures stands { IfOk result (StandsForTree bytes.now) }
+    ensures read { IfOk result (IsRead bytes.now) }
+    ensures tree { IfOk result IsReadTree }
     ensures refused { (top clock : List ℕ) → IfErr result (StopsFor (IsTextFault bytes.now top clock)) }
 {
     let tokens = tokens(alloc, bytes)?;
@@ -36,8 +38,8 @@ fn tree_of(alloc: Global, bytes: &[u8]) -> Result<Tree, NetStop>
 
 // The flat netlist of a text's design.
 fn flat_of(alloc: Global, bytes: &[u8], top: &str, clock: &str) -> Result<Flat, NetStop>
-    requires { length bytes.now ≤ most_bytes }
-    ensures found { IfOk result (λ flat. (tree : TreeOf) × IsNetOf bytes.now (design_of tree top.now clock.now) flat) }
+    requires { length bytes.now ≤ most_bytes kinds.Netlist }
+    ensures found { IfOk result (λ flat. (tree : TreeOf) × IsReadNetOf bytes.now (design_of tree top.now clock.now) flat) }
     ensures refused { IfErr result (StopsFor (IsTextFault bytes.now top.now clock.now)) }
 {
     let tree = tree_of(alloc, bytes)?;
@@ -83,8 +85,8 @@ pub fn read_netlist(
     top: &str,
     clock: &str,
 ) -> Result<(Flat, Levels), NetStop>
-    requires { length bytes.now ≤ most_bytes }
-    ensures found { IfOk result (λ read. (tree : TreeOf) × IsNetOf bytes.now (design_of tree top.now clock.now) read.0) }
+    requires { length bytes.now ≤ most_bytes kinds.Netlist }
+    ensures found { IfOk result (λ read. (tree : TreeOf) × IsReadNetOf bytes.now (design_of tree top.now clock.now) read.0) }
     ensures levels { IfOk result (λ read. AreLevels read.0 read.1) }
     ensures no_cycle { IfOk result (λ read. ¬ HasCycle read.0) }
     ensures refused { IfErr result (StopsFor (IsTextFault bytes.now top.now clock.now)) }

@@ -4,14 +4,12 @@ ghost use Rattle.std.specs.Prelude.{◌≡◌, ◌≤◌, length, None, IfOk, If
 ghost use Rattle.net_core.specs.Netlist.{input_nets};
 ghost use Rattle.net_core.specs.WellFormed.{IsFlat};
 ghost use Rattle.net_levels.specs.Levels.{AreLevels};
-ghost use Rattle.vlog_parse.specs.declared.tree.Module.{Module as ModuleOf};
-ghost use Rattle.vlog_check.specs.Checked.{IsChecked};
 ghost use Rattle.stim_read.specs.Ports as ports;
 ghost use Rattle.stim_read.specs.Reading.{Begins};
 ghost use Rattle.stim_read.specs.Streams.{IsDrained};
-ghost use Rattle.elab_design.specs.Design.{Design, IsTop};
-ghost use Rattle.elab_design.specs.Elaborates.{Elaborates};
-ghost use Rattle.ila_top.specs.Answers.{streams_of, SimAnswer, BeginAnswer, LeavesTrace};
+ghost use Rattle.ila_top.specs.Outside.{streams_of};
+ghost use Rattle.ila_top.specs.Reading.{Topped};
+ghost use Rattle.ila_top.specs.Simulating.{HasFlat, SimStreams, BeginAnswer, ReadsHeader};
 
 use crate::status::Status;
 use clock_sim::Plain;
@@ -29,6 +27,7 @@ fn begin<S: Source>(alloc: Global, flat: &Flat, stimulus: &mut S) -> Result<Stim
     ensures size { IfOk result (λ stim. length stim.bits ≡ length (input_nets flat.now)) }
     ensures drained { IfOk result (λ stim. IsDrained stim.ended (S.left stimulus.new)) }
     ensures cause { IfErr result (BeginAnswer (ports.data_inputs flat.now) (S.left stimulus.old) (S.left stimulus.new) (S.faults stimulus.old) (S.faults stimulus.new)) }
+    ensures ahead { ReadsHeader (ports.data_inputs flat.now) (S.left stimulus.old) (S.left stimulus.new) }
     ensures later { S.faults stimulus.old ≤ S.faults stimulus.new }
 {
     match Stim::new(alloc, stimulus, flat) {
@@ -39,8 +38,8 @@ fn begin<S: Source>(alloc: Global, flat: &Flat, stimulus: &mut S) -> Result<Stim
     }
 }
 
-/// Simulates a flat netlist over the stimulus, and writes the outputs text to the trace. Where the
-/// netlist is that of a checked design, all is said of the design.
+/// Simulates a flat netlist over the stimulus, and writes the outputs text to the trace. All is said of
+/// the design whose flat netlist it is.
 pub fn simulate<S: Source, K: Sink>(
     alloc: Global,
     flat: &Flat,
@@ -50,11 +49,10 @@ pub fn simulate<S: Source, K: Sink>(
 ) -> Status
     requires flat { IsFlat flat.now }
     requires levels { AreLevels flat.now levels.now }
-    ensures answers { (d : Design) (top : ModuleOf) → IsChecked d.tree d.top → IsTop d top → Elaborates d flat.now → SimAnswer d top
+    ensures answers { (job : Topped) → HasFlat job flat.now → SimStreams job
         (streams_of S.Source K.Sink stimulus.old trace.old)
         (streams_of S.Source K.Sink stimulus.new trace.new)
         result }
-    ensures leaves { LeavesTrace (K.written trace.old) (K.written trace.new) result }
     ensures read_later { S.faults stimulus.old ≤ S.faults stimulus.new }
     ensures write_later { K.faults trace.old ≤ K.faults trace.new }
 {

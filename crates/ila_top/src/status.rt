@@ -32,3 +32,10 @@ pub enum Status {
     /// Memory was not found.
     NoMemory,
 }
+
+/// An ending of a command: its status, and the name of the core that the status speaks of, if it speaks of one.
+#[derive(Debug, Drop)]
+pub struct Ended {
+    pub status: Status,
+    pub core: Option<Name>,
+}

@@ -1,13 +1,14 @@
-ghost use Rattle.std.specs.Prelude.{◌≡◌, ◌≤◌, ◌⊎◌, [], map, Some, string_bytes};
-ghost use Rattle.ila_top.specs.Answers.{SimWords, outside_of, sim_words, Cause, IsClear, IsDone, Stands, IsReported};
-ghost use Rattle.ila_top.specs.Sentences.{IsTold, Sentence, IsHindrance, AreSame};
-ghost use Rattle.ila_top.specs.declared.status.Status.{Status as StatusOf};
+ghost use Rattle.std.specs.Prelude.{◌≡◌, ◌≤◌, ◌↔◌, map, None, string_bytes};
+ghost use Rattle.ila_top.specs.Commands.{asked};
+ghost use Rattle.ila_top.specs.Outside.{outside_of, IsLater};
+ghost use Rattle.ila_top.specs.Answers.{Answers, IsAnswered, Comes, IsComplete};
+ghost use Rattle.ila_top.specs.declared.status.Status.TheVariants as status;
 
-use crate::ending::report;
-use crate::form::sim_of;
-use crate::laws::one_answer;
+use crate::ending::{plain, report};
+use crate::form::{Command, command_of};
+use crate::laws::sim_is_exact;
 use crate::sim::sim;
-use crate::status::Status;
+use crate::status::{Ended, Status};
 use ila_base::{Shelf, Sink, Source};
 use std::alloc::Global;
 
@@ -18,28 +19,18 @@ fn answer<H: Shelf, S: Source, K: Sink>(
     shelf: &mut H,
     stimulus: &mut S,
     trace: &mut K,
-) -> Status
-    ensures cause { Cause (map string_bytes words.now)
+) -> Ended
+    ensures answers { Answers (asked (map string_bytes words.now))
         (outside_of H.Shelf S.Source K.Sink shelf.old stimulus.old trace.old)
         (outside_of H.Shelf S.Source K.Sink shelf.new stimulus.new trace.new)
         result }
-    ensures comes { (sim : SimWords) (status : StatusOf) → sim_words (map string_bytes words.now) ≡ Some sim
-        → IsTold (outside_of H.Shelf S.Source K.Sink shelf.old stimulus.old trace.old)
-        → Sentence sim (outside_of H.Shelf S.Source K.Sink shelf.old stimulus.old trace.old) status
-        → IsHindrance result ⊎ AreSame status result }
-    ensures complete { (sim : SimWords) → sim_words (map string_bytes words.now) ≡ Some sim → IsClear sim
+    ensures later { IsLater
         (outside_of H.Shelf S.Source K.Sink shelf.old stimulus.old trace.old)
-        (outside_of H.Shelf S.Source K.Sink shelf.new stimulus.new trace.new)
-        → IsDone result }
-    ensures stands { Stands
-        (outside_of H.Shelf S.Source K.Sink shelf.old stimulus.old trace.old)
-        (outside_of H.Shelf S.Source K.Sink shelf.new stimulus.new trace.new)
-        result }
+        (outside_of H.Shelf S.Source K.Sink shelf.new stimulus.new trace.new) }
 {
-    one_answer();
-    match sim_of(words) {
-        Some(words) => sim(alloc, &words, shelf, stimulus, trace),
-        None => Status::Usage,
+    match command_of(words) {
+        Command::Sim(words) => sim(alloc, &words, shelf, stimulus, trace),
+        Command::Usage => plain(Status::Usage),
     }
 }
 
@@ -54,33 +45,27 @@ pub fn ila<H: Shelf, S: Source, K: Sink, E: Sink>(
     trace: &mut K,
     errors: &mut E,
 ) -> Status
-    // Each answer comes only with its cause, Usage exactly where the words are of no command.
-    ensures cause { Cause (map string_bytes words.now)
+    // Each answer comes only with its cause and leaves what its command says; its line was written, whole where the error sink has no fault.
+    ensures answers { IsAnswered (asked (map string_bytes words.now))
         (outside_of H.Shelf S.Source K.Sink shelf.old stimulus.old trace.old)
         (outside_of H.Shelf S.Source K.Sink shelf.new stimulus.new trace.new)
-        result }
-    // Where the files and the stimulus are told, the answer whose sentence holds comes, but for a fault or
-    // want of memory: Done where the netlist is accepted and the stimulus has rows alone, and each refusal
-    // where its sentence holds. Of several cycles any may be named.
-    ensures comes { (sim : SimWords) (status : StatusOf) → sim_words (map string_bytes words.now) ≡ Some sim
-        → IsTold (outside_of H.Shelf S.Source K.Sink shelf.old stimulus.old trace.old)
-        → Sentence sim (outside_of H.Shelf S.Source K.Sink shelf.old stimulus.old trace.old) status
-        → IsHindrance result ⊎ AreSame status result }
-    // Where the words are those of `sim`, no sentence of a refusal holds and no count has risen, it is
-    // done, or memory wasn't found.
-    ensures complete { (sim : SimWords) → sim_words (map string_bytes words.now) ≡ Some sim → IsClear sim
+        (E.written errors.old) (E.written errors.new) (E.faults errors.old) (E.faults errors.new) result }
+    // No count of faults falls.
+    ensures later { IsLater
         (outside_of H.Shelf S.Source K.Sink shelf.old stimulus.old trace.old)
-        (outside_of H.Shelf S.Source K.Sink shelf.new stimulus.new trace.new)
-        → IsDone result }
-    // What stands of files, stimulus and trace after each answer.
-    ensures stands { Stands
+        (outside_of H.Shelf S.Source K.Sink shelf.new stimulus.new trace.new) }
+    ensures errors_later { E.faults errors.old ≤ E.faults errors.new }
+    // These follow from the first: Usage comes exactly where the words are of no command;
+    ensures usage { (result ≡ status.Usage) ↔ (asked (map string_bytes words.now) ≡ None) }
+    // where files and stimulus are told, the answer whose sentence holds comes, but for a fault or want of memory;
+    ensures comes { Comes (asked (map string_bytes words.now))
+        (outside_of H.Shelf S.Source K.Sink shelf.old stimulus.old trace.old) result }
+    // and where no sentence of a refusal holds and no count has risen, it is done, or memory wasn't found.
+    ensures complete { IsComplete (asked (map string_bytes words.now))
         (outside_of H.Shelf S.Source K.Sink shelf.old stimulus.old trace.old)
-        (outside_of H.Shelf S.Source K.Sink shelf.new stimulus.new trace.new)
-        result }
-    // The error line, whole where the error sink has no fault.
-    ensures line { IsReported (E.written errors.old) (E.written errors.new) (E.faults errors.old) (E.faults errors.new) result [] }
-    ensures later { E.faults errors.old ≤ E.faults errors.new }
+        (outside_of H.Shelf S.Source K.Sink shelf.new stimulus.new trace.new) result }
 {
-    let status = answer(alloc, words, shelf, stimulus, trace);
-    report(errors, status)
+    sim_is_exact();
+    let ended = answer(alloc, words, shelf, stimulus, trace);
+    report(errors, ended)
 }

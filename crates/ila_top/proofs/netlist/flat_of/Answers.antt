@@ -17,14 +17,14 @@ returns-in_err-tree-clause-refused c =
 pub returns-in_err-design-clause-refused : goal.returns-in_err-design-clause-refused
 returns-in_err-design-clause-refused c =
     let p = err_from_is_err_and c.from_residual-in_err-design.result c.from_residual-in_err-design.ensures.1 in
-    rw (p.1, p.2) (check_refused c.args.bytes.now c.args.top.now c.args.clock.now c.in_ok-tree.tree _ c.in_ok-tree.ensures.stands c.in_err-design.ensures.refused)
+    rw (p.1, p.2) (check_refused c.args.bytes.now c.args.top.now c.args.clock.now c.in_ok-tree.tree _ c.in_ok-tree.ensures.read c.in_err-design.ensures.refused)
 
 pub returns-clause-refused : goal.returns-clause-refused
 returns-clause-refused c =
     let found = c.in_ok-design.ensures.found in
     let T : Tree → Type 0 = λ tree. IfErr c.flatten.result (StopsFor (IsElabFault (record { tree = tree; top = c.in_ok-design.design.top; clock = c.args.clock.now }))) in
     let N : List ℕ → Type 0 = λ name. IfErr c.flatten.result (StopsFor (IsElabFault (record { tree = c.in_ok-tree.tree; top = name; clock = c.args.clock.now }))) in
-    unfold_refused_by c.args.bytes.now c.args.top.now c.args.clock.now c.in_ok-tree.tree c.flatten.result c.in_ok-tree.ensures.stands found.2
+    unfold_refused_by c.args.bytes.now c.args.top.now c.args.clock.now c.in_ok-tree.tree c.flatten.result c.in_ok-tree.ensures.read found.2
     (subst N found.1 (subst T found.0 c.flatten.ensures.refused))
 
 pub returns-clause-found : goal.returns-clause-found
@@ -35,4 +35,4 @@ returns-clause-found c =
     let T : Tree → Type 0 = λ tree. B tree c.in_ok-design.design.top in
     let N : List ℕ → Type 0 = λ name. B c.in_ok-tree.tree name in
     let both = subst N found.1 (subst T found.0 (c.flatten.ensures.found, c.flatten.ensures.accepted)) in
-    net_of c.args.bytes.now c.args.top.now c.args.clock.now c.in_ok-tree.tree c.flatten.result c.in_ok-tree.ensures.stands found.2 both.0 c.flatten.ensures.kept both.1
+    net_of c.args.bytes.now c.args.top.now c.args.clock.now c.in_ok-tree.tree c.flatten.result c.in_ok-tree.ensures.stands c.in_ok-tree.ensures.read found.2 both.0 c.flatten.ensures.kept both.1

@@ -1,20 +1,24 @@
 use Rattle.std.proofs.Common.{List, Err, inr, refl, ap, subst}
-use Rattle.std.proofs.KnownBytes.{Keeps-refl}
 use Rattle.stim_read.specs.declared.inputs.DataInput.{DataInput}
 use Rattle.stim_read.specs.Ports as ports
-use Rattle.ila_top.specs.Answers.{Streams, streams_of}
+use Rattle.ila_top.specs.Outside.{Streams, streams_of}
+use Rattle.ila_top.specs.Simulating.{BeginAnswer, ReadsHeader}
 use Rattle.ila_top.specs.Rows.{BeginsIfTold, HasRowsIfTold, RefusesIfTold, ReadsRowsIfTold}
 use Rattle.ila_top.proofs.Taken.{rows_begin, rows_read, rows_all, rows_refused, only_behind, behind_header, answer_refused, answer_begin, rose_since}
 use Rattle.ila_top.proofs.simulate.simulate.Goals as goal
 
 pub returns-in-Err-clause-answers : goal.returns-in-Err-clause-answers
-returns-in-Err-clause-answers g c = λ d top checked is_top own.
-    let same = c.inputs_agree.ensures d c.args.flat.now top checked c.requires.flat own is_top in
-    answer_begin d top _ _ (ports.data_inputs c.args.flat.now) c.in-Err.status same (Keeps-refl (g.K.Sink.written c.args.trace.now)) c.in-Err.ensures.cause
+returns-in-Err-clause-answers g c = λ job own.
+    let same = c.inputs_agree.ensures job.design c.args.flat.now job.top own.checked c.requires.flat own.elaborates own.is_top in
+    let before : Streams _ _ = streams_of g.S.Source g.K.Sink c.args.stimulus.now c.args.trace.now in
+    let after : Streams _ _ = streams_of g.S.Source g.K.Sink c.begin.new.stimulus c.args.trace.now in
+    let B : List DataInput → Type 0 = λ inputs. BeginAnswer inputs before.left after.left before.read_faults after.read_faults c.in-Err.status in
+    let H : List DataInput → Type 0 = λ inputs. ReadsHeader inputs before.left after.left in
+    answer_begin job before after c.in-Err.status (record { trace = refl; left = subst H same c.begin.ensures.ahead }) (subst B same c.in-Err.ensures.cause)
 
 pub returns-in-Ok-show-clause-answers : goal.returns-in-Ok-show-clause-answers
-returns-in-Ok-show-clause-answers g c = λ d top checked is_top own.
-    let same = c.inputs_agree.ensures d c.args.flat.now top checked c.requires.flat own is_top in
+returns-in-Ok-show-clause-answers g c = λ job own.
+    let same = c.inputs_agree.ensures job.design c.args.flat.now job.top own.checked c.requires.flat own.elaborates own.is_top in
     let done = c.in-Ok-show.ensures.done c.in-Ok-show.field-0 refl in
     let told : HasRowsIfTold (ports.data_inputs c.args.flat.now) (g.S.Source.left c.args.stimulus.now) done.0 =
     rows_all (ports.data_inputs c.args.flat.now) (g.S.Source.left c.begin.new.stimulus) c.in-Ok-begin.stim done.0 (g.S.Source.left c.args.stimulus.now)
@@ -22,27 +26,27 @@ returns-in-Ok-show-clause-answers g c = λ d top checked is_top own.
     let I : List DataInput → Type 0 = λ inputs. HasRowsIfTold inputs (g.S.Source.left c.args.stimulus.now) done.0 in (
       done.0,
       subst I same told,
-      c.shows_design.ensures.whole d c.args.flat.now checked c.requires.flat own done.0 done.3.stands.history done.3.stands.one _ _ done.4,
+      c.shows_design.ensures.whole job.design c.args.flat.now own.checked c.requires.flat own.elaborates done.0 done.3.stands.history done.3.stands.one _ _ done.4,
       c.in-Ok-show.ensures.drained refl c.in-Ok-begin.ensures.drained,
     )
 
 pub returns-in-Err-Stimulus-clause-answers : goal.returns-in-Err-Stimulus-clause-answers
-returns-in-Err-Stimulus-clause-answers g c = λ d top checked is_top own.
-    let same = c.inputs_agree.ensures d c.args.flat.now top checked c.requires.flat own is_top in
+returns-in-Err-Stimulus-clause-answers g c = λ job own.
+    let same = c.inputs_agree.ensures job.design c.args.flat.now job.top own.checked c.requires.flat own.elaborates own.is_top in
     let refused = c.in-Err-Stimulus.ensures.refused c.in-Err-Stimulus.why (ap Err c.in-Err-Stimulus.field-0-is) in
     let behind = only_behind c.in-Ok-begin.stim (g.S.Source.left c.begin.new.stimulus) refused.0 c.in-Err-Stimulus.why c.in-Ok-begin.ensures.begun.refused refused.1 in
     let told : RefusesIfTold (ports.data_inputs c.args.flat.now) (g.S.Source.left c.args.stimulus.now) refused.0 c.in-Err-Stimulus.why =
     rows_refused (ports.data_inputs c.args.flat.now) (g.S.Source.left c.begin.new.stimulus) c.in-Ok-begin.stim refused.0 (g.S.Source.left c.args.stimulus.now)
     c.in-Err-Stimulus.why c.in-Ok-begin.ensures.begun behind in
     let I : List DataInput → Type 0 = λ inputs. RefusesIfTold inputs (g.S.Source.left c.args.stimulus.now) refused.0 c.in-Err-Stimulus.why in
-    let before : Streams = streams_of g.S.Source g.K.Sink c.args.stimulus.now c.args.trace.now in
-    let after : Streams = streams_of g.S.Source g.K.Sink c.show.new.source c.show.new.trace in
-    answer_refused d top before after c.in-Err-Stimulus.why (behind_header c.in-Ok-begin.stim (g.S.Source.left c.begin.new.stimulus) refused.0 c.in-Err-Stimulus.why behind) refused.0
-    (subst I same told) (c.shows_design.ensures.whole d c.args.flat.now checked c.requires.flat own refused.0 refused.2.history refused.2.one _ _ refused.3)
+    let before : Streams _ _ = streams_of g.S.Source g.K.Sink c.args.stimulus.now c.args.trace.now in
+    let after : Streams _ _ = streams_of g.S.Source g.K.Sink c.show.new.source c.show.new.trace in
+    answer_refused job before after c.in-Err-Stimulus.why (behind_header c.in-Ok-begin.stim (g.S.Source.left c.begin.new.stimulus) refused.0 c.in-Err-Stimulus.why behind) refused.0
+    (subst I same told) (c.shows_design.ensures.whole job.design c.args.flat.now own.checked c.requires.flat own.elaborates refused.0 refused.2.history refused.2.one _ _ refused.3)
 
 pub returns-in-Err-ReadFault-clause-answers : goal.returns-in-Err-ReadFault-clause-answers
-returns-in-Err-ReadFault-clause-answers g c = λ d top checked is_top own.
-    let same = c.inputs_agree.ensures d c.args.flat.now top checked c.requires.flat own is_top in
+returns-in-Err-ReadFault-clause-answers g c = λ job own.
+    let same = c.inputs_agree.ensures job.design c.args.flat.now job.top own.checked c.requires.flat own.elaborates own.is_top in
     let fault = c.in-Err-ReadFault.ensures.read_fault (ap Err c.in-Err-ReadFault.field-0-is) in
     let told : ReadsRowsIfTold (ports.data_inputs c.args.flat.now) (g.S.Source.left c.args.stimulus.now) fault.0 (g.S.Source.left c.show.new.source) =
     rows_read (ports.data_inputs c.args.flat.now) (g.S.Source.left c.begin.new.stimulus) c.in-Ok-begin.stim fault.0 (g.S.Source.left c.args.stimulus.now)
@@ -52,13 +56,13 @@ returns-in-Err-ReadFault-clause-answers g c = λ d top checked is_top own.
       inr (record {
         rows = fault.0;
         taken = subst I same told;
-        shown = c.shows_design.ensures.whole d c.args.flat.now checked c.requires.flat own fault.0 fault.3.stands.history fault.3.stands.one _ _ fault.4;
+        shown = c.shows_design.ensures.whole job.design c.args.flat.now own.checked c.requires.flat own.elaborates fault.0 fault.3.stands.history fault.3.stands.one _ _ fault.4;
       }),
     )
 
 pub returns-in-Err-WriteFault-clause-answers : goal.returns-in-Err-WriteFault-clause-answers
-returns-in-Err-WriteFault-clause-answers g c = λ d top checked is_top own.
-    let same = c.inputs_agree.ensures d c.args.flat.now top checked c.requires.flat own is_top in
+returns-in-Err-WriteFault-clause-answers g c = λ job own.
+    let same = c.inputs_agree.ensures job.design c.args.flat.now job.top own.checked c.requires.flat own.elaborates own.is_top in
     let fault = c.in-Err-WriteFault.ensures.write_fault (ap Err c.in-Err-WriteFault.field-0-is) in
     let told : BeginsIfTold (ports.data_inputs c.args.flat.now) (g.S.Source.left c.args.stimulus.now) fault.0 =
     rows_begin (ports.data_inputs c.args.flat.now) (g.S.Source.left c.begin.new.stimulus) c.in-Ok-begin.stim fault.0 (g.S.Source.left c.args.stimulus.now)
@@ -68,6 +72,6 @@ returns-in-Err-WriteFault-clause-answers g c = λ d top checked is_top own.
       (
         fault.0,
         subst I same told,
-        c.shows_design.ensures.front d c.args.flat.now checked c.requires.flat own fault.0 fault.2.stands.history fault.2.stands.one _ _ fault.3,
+        c.shows_design.ensures.front job.design c.args.flat.now own.checked c.requires.flat own.elaborates fault.0 fault.2.stands.history fault.2.stands.one _ _ fault.3,
       ),
     )

@@ -1,6 +1,6 @@
 use Rattle.ila_top.proofs.OneText.{TextLaws}
-use Rattle.ila_top.proofs.OneAnswer.{AnswerLaws, one_answer}
-use Rattle.ila_top.proofs.laws.one_answer.Goals as goal
+use Rattle.ila_top.proofs.SimLaws.{AnswerLaws, sim_exact}
+use Rattle.ila_top.proofs.laws.sim_is_exact.Goals as goal
 
 pub returns : goal.returns
 returns c =
@@ -21,4 +21,4 @@ returns c =
       refusal = c.one_refusal-3.ensures.one;
       no_refusal = c.one_refusal-3.ensures.none;
     } in
-    λ sim before one other told. one_answer laws sim before told one other
+    λ words. sim_exact laws words
