@@ -13,9 +13,8 @@ ghost use Rattle.ila_top.specs.Reading.{StandsForTree, IsNetOf, IsTextFault, IsL
 ghost use Rattle.ila_top.specs.Answers.{most_bytes};
 
 use elab_flat::flatten;
-use flat_settle::net_names;
 use ila_base::{NetRefusal, Place};
-use net_core::{Flat, NetId};
+use net_core::{Flat, NetId, net_names};
 use net_levels::calls::levels;
 use net_levels::types::{LevelFault, Levels};
 use std::alloc::Global;
