@@ -5,6 +5,7 @@ use Rattle.std.proofs.lemmas.List.Sums.{sum_by-cons, sum_by_push}
 use Rattle.std.proofs.lemmas.Option.{same_Some, slice_get_within}
 use Rattle.std.proofs.Math.Nat.{mul-le-mul_left, mul_comm}
 use Rattle.std.proofs.Math.Seq.{drop-append_seam}
+use Rattle.ila_base.specs.declared.limits.TheConstants.{CELLS}
 use Rattle.net_core.specs.declared.kind.CellKind.{CellKind}
 use Rattle.net_core.specs.declared.kind.CellKind.TheVariants.{Gate, Lut, Inv, Ibuf, Obuf, Bufg, Gnd, Vcc, Muxf7, Muxf8, Carry4, Fdre, Fdse, Fdce, Fdpe, Mem}
 use Rattle.net_core.specs.declared.parts.Cell.{Cell}
@@ -47,11 +48,11 @@ base_small (cell ∷ cells) zero allowed = omega arith
 base_small (cell ∷ cells) (suc i) allowed =
     omega (arith, base_small cells i (λ c. allowed (suc c)), size_small cell.kind (allowed 0 cell refl), sum_by-cons (λ (cell : Cell). content_size cell.kind) cell (take i cells))
 
-pub base_fits : (cells : List Cell) (i : ℕ) (cell : Cell) → ((c : ℕ) (cell : Cell) → slice_get cells c ≡ Some cell → IsAllowed cell.kind) → i ≤ 1048576 → slice_get cells i ≡ Some cell
+pub base_fits : (cells : List Cell) (i : ℕ) (cell : Cell) → ((c : ℕ) (cell : Cell) → slice_get cells c ≡ Some cell → IsAllowed cell.kind) → i ≤ CELLS → slice_get cells i ≡ Some cell
     → base_of cells i + content_size cell.kind < 2 ^ 64
 base_fits cells i cell allowed few at = omega (arith, base_small cells i allowed, size_small cell.kind (allowed i cell at), few)
 
-pub bases_fit : (cells : List Cell) (i : ℕ) → ((c : ℕ) (cell : Cell) → slice_get cells c ≡ Some cell → IsAllowed cell.kind) → i ≤ 1048576 → base_of cells i < 2 ^ 64
+pub bases_fit : (cells : List Cell) (i : ℕ) → ((c : ℕ) (cell : Cell) → slice_get cells c ≡ Some cell → IsAllowed cell.kind) → i ≤ CELLS → base_of cells i < 2 ^ 64
 bases_fit cells i allowed few = omega (arith, base_small cells i allowed, few)
 
 -- a part of a list stays when the list grows

@@ -46,7 +46,8 @@ module _ (net : Netlist) (inputs bases pins : List ℕ) (registers : List Row) (
     is_settled : IsSettled net row (net_bit settled) (stored_bit net.cells stored)
     is_settled = record {
       inputs = same_lists (map (net_bit settled) (input_nets net)) row (length-map (input_nets net) (net_bit settled) ∙ sym size) each;
-      outputs = λ c cell k n drives is.
+      outputs = λ c cell at k n on is.
+          let drives : Drives net.cells c cell k n = record { at = at; on = on } in
           let own = keeps.plan.slot_each.complete c cell k n drives is in
           own_output c cell k n drives own.0 own.1 own.2 own.3 own.4 own.5;
     }
@@ -68,7 +69,7 @@ module _ (net : Netlist) (inputs bases pins : List ℕ) (registers : List Row) (
             ∙ ap (output cell.kind (input_pins (net_bit settled) cell) (stored_bit net.cells stored c)) same_out
 
     is_next : IsNext net (net_bit settled) (stored_bit net.cells stored) (stored_bit net.cells after)
-    is_next c cell i at within =
+    is_next c cell at i within =
         let own = keeps.register_each.complete c cell at (omega (arith, within)) in
         own_next c cell i within own.0 own.1 own.2 own.3
       where

@@ -4,6 +4,7 @@ use Rattle.std.proofs.lemmas.List.{length-map}
 use Rattle.std.proofs.lemmas.List.Sums.{sum_by-cons}
 use Rattle.std.proofs.lemmas.Option.{slice_get_within, slice_get-map}
 use Rattle.std.specs.Option.{option_map}
+use Rattle.ila_base.specs.declared.limits.TheConstants.{CELLS, PINS}
 use Rattle.net_core.specs.declared.kind.CellKind.{CellKind}
 use Rattle.net_core.specs.declared.kind.CellKind.TheVariants.{Gate, Lut, Inv, Ibuf, Obuf, Bufg, Gnd, Vcc, Muxf7, Muxf8, Carry4, Fdre, Fdse, Fdce, Fdpe, Mem}
 use Rattle.net_core.specs.declared.parts.Pin.{Pin}
@@ -89,10 +90,10 @@ slot_has_row net rank pins rows slots base j slot told slot_each at =
     omega (arith, slice_get_within net.cells slot.cell sound.0 sound.1.at, told.size)
 
 module _ (net : Netlist) (flat : IsFlat net) where
-  pub few_cells : length net.cells ≤ 1048576
+  pub few_cells : length net.cells ≤ CELLS
   few_cells = flat.formed.limits.cells
 
-  pub few_pins : sum_by (λ (cell : Cell). length cell.ins) net.cells ≤ 16777216
+  pub few_pins : sum_by (λ (cell : Cell). length cell.ins) net.cells ≤ PINS
   few_pins = omega (arith, fewer_pins net.cells, flat.formed.limits.pins)
 
   pub all_allowed : (c : ℕ) (cell : Cell) → slice_get net.cells c ≡ Some cell → IsAllowed cell.kind
@@ -126,7 +127,7 @@ module _ (net : Netlist) (flat : IsFlat net) where
   }
 
   pub stands_new : (values stored : List Bool) → IsStartTo net.cells (length net.cells) stored → StandsFor net (net_bit values) (stored_bit net.cells stored) []
-  stands_new values stored start = stands_none net (net_bit values) (stored_bit net.cells stored) (λ c cell i at within. start.bits c cell i (slice_get_within net.cells c cell at) at within)
+  stands_new values stored start = stands_none net (net_bit values) (stored_bit net.cells stored) (λ c cell at i within. start.bits c cell i (slice_get_within net.cells c cell at) at within)
 
   module _ (numbers inputs row_pins : List ℕ) (rows : List Row) (slots : List Slot) (bases pins : List ℕ) (registers : List Row) (places : List ℕ) (formulas : List Formula) (values stored : List Bool) (next : ℕ)
       (ranked : IsRanked net (slice_index numbers)) (input_each : inputs ≡ input_nets net) (told : AreRowsTo net.cells (length net.cells) row_pins rows next) (base_each : AreBases net.cells bases)

@@ -7,7 +7,6 @@ ghost use Rattle.clock_sim.specs.declared.plan.Slot.{Slot as SlotOf};
 ghost use Rattle.net_core.specs.CellTable as kinds;
 ghost use Rattle.net_core.specs.Netlist.{Netlist, input_nets, net_count, numbers as numbers_of, port_nets, is_clock};
 ghost use Rattle.net_core.specs.WellFormed.{IsFlat};
-ghost use Rattle.net_core.specs.Run.{IsStart};
 ghost use Rattle.net_core.specs.Cycle.{IsRanked};
 ghost use Rattle.net_core.specs.declared.parts.Cell.{Cell as CellOf};
 ghost use Rattle.clock_sim.specs.Reading.{place_of, places_of};
@@ -16,21 +15,10 @@ ghost use Rattle.clock_sim.specs.Plan.{base_of, stored_bit, row_of, AreRowsTo, A
 use crate::bits::Bits;
 use crate::plan::{Formula, Row, Slot};
 use ila_base::NoMemory;
-use net_core::{Cell, CellKind, Flat, Group, NetId, Pin, Port};
+use ila_base::limits::{CELLS, PINS};
+use net_core::{Cell, CellKind, Flat, NetId, Pin, Port};
 use net_levels::types::Levels;
 use std::alloc::Global;
-
-// How many bits a cell stores.
-fn content_size(kind: CellKind) -> usize
-    requires { kinds.IsAllowed kind }
-    ensures { result ≡ kinds.content_size kind }
-{
-    match kind {
-        CellKind::Fdre(_) | CellKind::Fdse(_) | CellKind::Fdce(_) | CellKind::Fdpe(_) => 1,
-        CellKind::Mem { aw, dw } => (1usize << aw) * dw as usize,
-        _ => 0,
-    }
-}
 
 // The place of what a pin reads.
 fn place(pin: Pin) -> u32
@@ -87,8 +75,8 @@ pub fn push_rows(
     cells: &[Cell],
 ) -> Result<usize, NoMemory>
     requires start { (places.old.items ≡ []) × (rows.old.items ≡ []) }
-    requires few { length cells.now ≤ 1048576 }
-    requires pins { sum_by (λ (cell : CellOf). length cell.ins) cells.now ≤ 16777216 }
+    requires few { length cells.now ≤ CELLS }
+    requires pins { sum_by (λ (cell : CellOf). length cell.ins) cells.now ≤ PINS }
     requires allowed { (c : ℕ) (cell : _) → slice_get cells.now c ≡ Some cell → kinds.IsAllowed cell.kind }
     requires nets { (c i : ℕ) (cell : _) (pin : _) → slice_get cells.now c ≡ Some cell → slice_get cell.ins i ≡ Some pin → place_of pin < 2 ^ 32 }
     ensures { IfOk result (λ base. AreRowsTo cells.now (length cells.now) places.new.items rows.new.items base) }
@@ -96,7 +84,7 @@ pub fn push_rows(
     let mut base = 0usize;
     for cell in cells {
         push_row(places, rows, cell, base)?;
-        base += content_size(cell.kind);
+        base += cell.kind.content_size();
     }
     Ok(base)
 }
@@ -109,15 +97,15 @@ pub fn push_registers(
     cells: &[Cell],
 ) -> Result<(), NoMemory>
     requires start { (places.old.items ≡ []) × (registers.old.items ≡ []) }
-    requires few { length cells.now ≤ 1048576 }
-    requires pins { sum_by (λ (cell : CellOf). length cell.ins) cells.now ≤ 16777216 }
+    requires few { length cells.now ≤ CELLS }
+    requires pins { sum_by (λ (cell : CellOf). length cell.ins) cells.now ≤ PINS }
     requires allowed { (c : ℕ) (cell : _) → slice_get cells.now c ≡ Some cell → kinds.IsAllowed cell.kind }
     requires nets { (c i : ℕ) (cell : _) (pin : _) → slice_get cells.now c ≡ Some cell → slice_get cell.ins i ≡ Some pin → place_of pin < 2 ^ 32 }
     ensures { OnOk result (AreRegisters cells.now places.new.items registers.new.items) }
 {
     let mut base = 0usize;
     for cell in cells {
-        let size = content_size(cell.kind);
+        let size = cell.kind.content_size();
         let stores = size > 0;
         if stores {
             push_row(places, registers, cell, base)?;
@@ -260,14 +248,6 @@ pub fn data_inputs(alloc: Global, flat: &Flat) -> Result<Vec<u32>, NoMemory>
     Ok(nets)
 }
 
-/// How many net bits the groups have.
-pub fn count_nets(groups: &[Group]) -> usize
-    requires { net_count groups.now < 2 ^ 32 }
-    ensures { result ≡ net_count groups.now }
-{
-    groups.iter().map(|group| group.bits.len()).sum()
-}
-
 /// The bits at the places before the first clock: all are 0 but the constant 1.
 pub fn start_values(alloc: Global, count: usize) -> Result<Vec<bool>, NoMemory>
     requires { count < 2 ^ 32 }
@@ -292,7 +272,7 @@ fn initial_bit(kind: CellKind) -> bool
 
 /// The stored bits of the cells at clock 0, one cell's after the other's: `count` bits in all.
 pub fn start_stored(alloc: Global, cells: &[Cell], count: usize) -> Result<Bits, NoMemory>
-    requires few { length cells.now ≤ 1048576 }
+    requires few { length cells.now ≤ CELLS }
     requires allowed { (c : ℕ) (cell : _) → slice_get cells.now c ≡ Some cell → kinds.IsAllowed cell.kind }
     requires count { count ≡ base_of cells.now (length cells.now) }
     ensures { IfOk result (λ stored. IsStartTo cells.now (length cells.now) stored) }
@@ -303,7 +283,7 @@ pub fn start_stored(alloc: Global, cells: &[Cell], count: usize) -> Result<Bits,
         if initial_bit(cell.kind) {
             stored.set(base, true);
         }
-        base += content_size(cell.kind);
+        base += cell.kind.content_size();
     }
     Ok(stored)
 }

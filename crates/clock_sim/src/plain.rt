@@ -6,8 +6,8 @@ ghost use Rattle.clock_sim.specs.Plan.{net_bits, net_content};
 
 use crate::bits::Bits;
 use crate::build::{
-    count_nets, data_inputs, first_bits, ordered_slots, push_formulas, push_registers, push_rows,
-    start_stored, start_values,
+    data_inputs, first_bits, ordered_slots, push_formulas, push_registers, push_rows, start_stored,
+    start_values,
 };
 use crate::clocking::{advance, place_inputs, settle};
 use crate::evaluate::bit_number;
@@ -69,7 +69,7 @@ impl<'a> Plain<'a> {
             rows.as_slice(),
             slots.as_slice(),
         )?;
-        let values = start_values(alloc, count_nets(flat.groups()))?;
+        let values = start_values(alloc, flat.net_count())?;
         let stored = start_stored(alloc, flat.cells(), count)?;
         Ok(Plain {
             flat,

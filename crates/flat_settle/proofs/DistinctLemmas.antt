@@ -5,7 +5,8 @@ use Rattle.std.specs.Option.{option_map}
 use Rattle.std.proofs.lemmas.Bool.{cases_eq, cases_lt}
 use Rattle.std.proofs.lemmas.Option.{same_Some}
 use Rattle.net_core.specs.declared.parts.Group.{Group}
-use Rattle.net_core.specs.WellFormed.{AllDiffer, bit_names, net_names}
+use Rattle.net_core.specs.WellFormed.{bit_names, net_names}
+use Rattle.net_graph.specs.Lists.{AllDiffer}
 use Rattle.net_core.proofs.ListLemmas.{filter_map_some}
 use Rattle.flat_settle.specs.declared.raw.RawCell.{RawCell}
 use Rattle.flat_settle.specs.declared.raw.Raw.{Raw}

@@ -1,7 +1,8 @@
 -- The driven bits and the clock set by steps.
 use Rattle.std.proofs.Common.{◌≡◌, ℕ, zero, suc, ◌<◌, Bool, true, false, List, [], ◌∷◌, slice_get, Some, ◌⊎◌, inl, inr, refl, ap, sym, ◌∙◌, subst, ◌↔◌}
 use Rattle.std.proofs.lemmas.Option.{same_Some}
-use Rattle.net_core.specs.Netlist.{IsIn, net_count}
+use Rattle.net_core.specs.Netlist.{net_count}
+use Rattle.net_graph.specs.Lists.{IsIn}
 use Rattle.flat_settle.specs.declared.raw.RawCell.{RawCell}
 use Rattle.flat_settle.specs.declared.raw.Raw.{Raw}
 use Rattle.flat_settle.specs.Raw.{IsUnfolded, with_cells}

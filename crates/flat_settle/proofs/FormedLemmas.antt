@@ -9,9 +9,10 @@ use Rattle.net_core.specs.declared.parts.Pin.TheVariants as pins
 use Rattle.net_core.specs.declared.parts.Cell.{Cell}
 use Rattle.net_core.specs.declared.parts.Group.{Group}
 use Rattle.net_core.specs.CellTable.{is_clock_buffer, input_widths, IsPinCount}
-use Rattle.net_core.specs.Netlist.{Parts, Drives, HasDriver, IsIn, input_bits, net_count, IsBuffered, IsClock, IsClockPort}
+use Rattle.net_core.specs.Netlist.{Parts, Drives, HasDriver, input_bits, net_count, IsBuffered, IsClock, IsClockPort}
+use Rattle.net_graph.specs.Lists.{IsIn, is_marked, AllDiffer, Each}
 use Rattle.net_core.specs.Netlist as flat
-use Rattle.net_core.specs.WellFormed.{IsWellFormed, AllDiffer, Each, HasRow, HasOneClock, IsIdentifier, identifiers}
+use Rattle.net_core.specs.WellFormed.{IsWellFormed, HasRow, HasOneClock, IsIdentifier, identifiers}
 use Rattle.net_core.proofs.ListLemmas.{filter_map_some}
 use Rattle.flat_settle.specs.declared.raw.RawCell.{RawCell}
 use Rattle.flat_settle.specs.declared.raw.Raw.{Raw}
@@ -22,7 +23,6 @@ use Rattle.flat_settle.specs.Raw.{RawDrives, with_cells, raw_identifiers, IsUnfo
 use Rattle.flat_settle.specs.Driven.{IsDriven, from_port, from_cell, from_constant, from_driven, zero_pin, one_pin, IsDropped, IsClocked, clock_port, Leaves}
 use Rattle.flat_settle.specs.Refusals.{HasRepeat, flat_order, IsFirst, input_and_pin, two_pins, IsOnClockPin, IsRead, by_pin, by_clock_pin, by_output, by_data_pin, by_data_output, is_constant, HasConstantClock, IsUndriven, IsOtherClock, IsClockData, IsFaultOf, HasNoFault, IsFirstClock, Settles}
 use Rattle.flat_settle.specs.Judged.{HasMarks, IsReadUndriven, IsOffClock, IsReadClock, IsJudgedFault, IsJudgedSound}
-use Rattle.flat_settle.specs.Tables.{is_marked}
 use Rattle.flat_settle.proofs.PortLemmas.{inputs_to, outputs_from, ports_within}
 use Rattle.flat_settle.proofs.KeepLemmas.{left_from}
 use Rattle.flat_settle.proofs.DistinctLemmas.{identifiers_distinct, names_distinct}

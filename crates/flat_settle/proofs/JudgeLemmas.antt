@@ -5,11 +5,13 @@ use Rattle.std.proofs.lemmas.Option.{same_Some, slice_get_within}
 use Rattle.net_core.specs.declared.parts.Pin.TheVariants as pins
 use Rattle.net_core.specs.declared.parts.Cell.{Cell}
 use Rattle.net_core.specs.CellTable.{is_clock_buffer}
-use Rattle.net_core.specs.Netlist.{Parts, Drives, Reads, HasDriver, IsIn}
-use Rattle.flat_settle.specs.declared.owners.Output.{Output}
+use Rattle.net_core.specs.Netlist.{Parts, Drives, Reads, HasDriver}
+use Rattle.net_graph.specs.Lists.{IsIn, is_marked}
+use Rattle.net_core.specs.declared.drivers.Output.{Output}
 use Rattle.flat_settle.specs.Refusals.{HasTwoSources, input_and_pin, two_pins, IsOnClockPin, IsRead, IsReadAsData}
 use Rattle.flat_settle.specs.Refusals as refusals
-use Rattle.flat_settle.specs.Tables.{is_marked, IsFirstWith, IsLeastOf, IsSomewhere, PinHas, PortHas, ReadHas, ClockHas, SharedHas, HasOutput, AreOwners}
+use Rattle.flat_settle.specs.Tables.{IsFirstWith, IsLeastOf, IsSomewhere, PinHas, PortHas, ReadHas, ClockHas, SharedHas}
+use Rattle.net_core.specs.Drivers.{HasOutput, AreDrivers}
 use Rattle.flat_settle.proofs.PortLemmas.{inputs_from, inputs_to, outputs_from, outputs_to}
 
 -- the first marked number with this other mark
@@ -63,7 +65,7 @@ module _ (parts : Parts) where
 
   -- Two sources
 
-  module _ (table : List (Option Output)) (inputs : List Bool) (named : AreOwners parts.cells (length parts.cells) table) (is_input : (n : ℕ) → (is_marked inputs n ≡ true) ↔ IsSomewhere (PortHas parts.groups false) parts.ports n) where
+  module _ (table : List (Option Output)) (inputs : List Bool) (named : AreDrivers parts.cells (length parts.cells) table) (is_input : (n : ℕ) → (is_marked inputs n ≡ true) ↔ IsSomewhere (PortHas parts.groups false) parts.ports n) where
     owner : (c : ℕ) (cell : Cell) (k n : ℕ) → Drives parts.cells c cell k n → (own : Output) × HasOutput table n own
     owner c cell k n drives = named.complete c cell k n (slice_get_within parts.cells c cell drives.at) drives
 

@@ -10,7 +10,8 @@ use Rattle.flat_settle.specs.declared.raw.RawCell.{RawCell}
 use Rattle.flat_settle.specs.declared.raw.Raw.{Raw}
 use Rattle.flat_settle.specs.Raw.{flat_cell}
 use Rattle.flat_settle.specs.Driven.{IsDriven, IsDropped, Leaves, none, kept, dropped}
-use Rattle.flat_settle.specs.Tables.{is_marked, stays, pin_stays}
+use Rattle.flat_settle.specs.Tables.{stays, pin_stays}
+use Rattle.net_graph.specs.Lists.{is_marked}
 
 -- what holds of the first i items, and of item i, holds of one more
 pub one_more : {X : Type 0} (P : X → Type 0) (xs : List X) (i : ℕ) (x : X) → slice_get xs i ≡ Some x → ((k : ℕ) (z : X) → k < i → slice_get xs k ≡ Some z → P z) → P x

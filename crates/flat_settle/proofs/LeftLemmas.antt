@@ -9,9 +9,10 @@ use Rattle.net_core.specs.declared.parts.Pin.TheVariants as pins
 use Rattle.net_core.specs.declared.parts.Cell.{Cell}
 use Rattle.net_core.specs.declared.parts.Group.{Group}
 use Rattle.net_core.specs.CellTable.{is_clock_buffer}
-use Rattle.net_core.specs.Netlist.{Drives, Reads, HasDriver, IsIn, input_bits, IsBuffered}
+use Rattle.net_core.specs.Netlist.{Drives, Reads, HasDriver, input_bits, IsBuffered}
+use Rattle.net_graph.specs.Lists.{IsIn, Each}
 use Rattle.net_core.specs.Netlist as flat
-use Rattle.net_core.specs.WellFormed.{Each, HasRow, identifiers, pin_count}
+use Rattle.net_core.specs.WellFormed.{HasRow, identifiers, pin_count}
 use Rattle.flat_settle.specs.declared.raw.RawCell.{RawCell}
 use Rattle.flat_settle.specs.declared.raw.Raw.{Raw}
 use Rattle.flat_settle.specs.Raw.{RawDrives, RawReads, HasRawRow, clock_net, flat_cell, with_cells, raw_identifiers, raw_pin_count, IsUnfolded}

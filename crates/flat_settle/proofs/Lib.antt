@@ -5,9 +5,7 @@ pub mod PortLemmas
 pub mod DrivenLemmas
 pub mod MarkedLemmas
 pub mod KeepLemmas
-pub mod OwnerLemmas
 pub mod JudgeLemmas
-pub mod NameLemmas
 pub mod DistinctLemmas
 pub mod LeftLemmas
 pub mod FormedLemmas
@@ -15,4 +13,3 @@ pub mod NumberLemmas
 pub mod SeenLemmas
 pub mod RepeatLemmas
 pub mod SampleLemmas
-pub mod PlaceLemmas

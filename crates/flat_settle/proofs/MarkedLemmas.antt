@@ -3,10 +3,9 @@ use Rattle.std.proofs.Common.{◌≡◌, ℕ, ◌+◌, ◌<◌, ◌≤◌, Bool,
 use Rattle.std.proofs.lemmas.Bool.{cases_lt}
 use Rattle.std.proofs.lemmas.List.{get_or-replicate, get_or_past, length-replicate}
 use Rattle.std.proofs.lemmas.Option.{slice_get_within, same_Some}
-use Rattle.net_core.specs.Netlist.{IsIn}
+use Rattle.net_graph.specs.Lists.{IsIn, is_marked}
 use Rattle.net_core.specs.Tables.{AddsMarks}
 use Rattle.net_core.proofs.MarkLemmas.{Below, marks_set, marks_more}
-use Rattle.flat_settle.specs.Tables.{is_marked}
 
 abbrev pub NumberAt : List ℕ → ℕ → ℕ → Type 0
 NumberAt xs k n = slice_get xs k ≡ Some n

@@ -7,7 +7,7 @@ use Rattle.std.proofs.lemmas.Bool.{cases_eq, cases_lt}
 use Rattle.std.proofs.lemmas.Map.Keys.{IsDistinct-tail, IsDistinct-head}
 use Rattle.std.proofs.lemmas.Option.{slice_get-map, same_Some}
 use Rattle.std.proofs.lemmas.Slice.Eq.{bytes_eq-Decides}
-use Rattle.net_core.specs.WellFormed.{AllDiffer}
+use Rattle.net_graph.specs.Lists.{AllDiffer}
 use Rattle.net_core.proofs.ListLemmas.{option_map_some, slice_get_left}
 use Rattle.flat_settle.specs.Naming.{Grows}
 

@@ -7,7 +7,8 @@ use Rattle.std.proofs.lemmas.Option.{slice_get-map}
 use Rattle.net_core.specs.declared.parts.NetId.{NetId}
 use Rattle.net_core.specs.declared.parts.Group.{Group}
 use Rattle.net_core.specs.declared.parts.Port.{Port}
-use Rattle.net_core.specs.Netlist.{Parts, IsIn, input_bits, output_bits, port_nets, group_nets, net_count}
+use Rattle.net_core.specs.Netlist.{Parts, input_bits, output_bits, port_nets, group_nets, net_count}
+use Rattle.net_graph.specs.Lists.{IsIn}
 use Rattle.net_core.specs.Tables.{IsAmongNets}
 use Rattle.net_core.proofs.ListLemmas.{option_map_some, flat_map_some, flat_map_at}
 use Rattle.net_core.proofs.PartsLemmas.{filter_some, filter_at, not_true}

@@ -7,14 +7,15 @@ use Rattle.std.proofs.lemmas.List.Sums.{sum_by-cons}
 use Rattle.std.proofs.lemmas.Option.{same_Some, slice_get_within, slice_get-map}
 use Rattle.net_core.specs.declared.parts.Group.{Group}
 use Rattle.net_core.specs.Netlist.{net_count}
-use Rattle.net_core.specs.WellFormed.{AllDiffer, Each, HasRange, IsIdentifier, bit_names}
+use Rattle.net_core.specs.WellFormed.{HasRange, IsIdentifier, bit_names}
+use Rattle.net_graph.specs.Lists.{AllDiffer, Each, IsIn}
 use Rattle.net_core.proofs.ListLemmas.{slice_get_left, slice_get_right}
 use Rattle.flat_settle.specs.declared.raw.RawCell.{RawCell}
 use Rattle.flat_settle.specs.declared.raw.Raw.{Raw}
 use Rattle.flat_settle.specs.Raw.{IsUnfolded, raw_identifiers}
 use Rattle.flat_settle.specs.Refusals.{Named, Identifier, BitName, word, group_names, cell_names, IsFirstRepeat, HasRepeat}
 use Rattle.flat_settle.specs.declared.seen.Seen.{Seen}
-use Rattle.flat_settle.specs.Naming.{AreSeen, IsAmong, Sees, RepeatsAfter}
+use Rattle.flat_settle.specs.Naming.{AreSeen, Sees, RepeatsAfter}
 use Rattle.flat_settle.proofs.DistinctLemmas.{picked_append}
 
 -- Lists
@@ -54,7 +55,7 @@ flat_map_split f xs i x at = ap (flat_map f) (split_item xs i x at) ∙ flat_map
 
 -- Meeting one more
 
-pub sees_true : (seen : Seen) (names : List Named) (one : Named) (there : Bool) → there ≡ true → Sees seen names one there → IsAmong names one
+pub sees_true : (seen : Seen) (names : List Named) (one : Named) (there : Bool) → there ≡ true → Sees seen names one there → IsIn names one
 sees_true seen names one there is sees = subst (λ (b : Bool). Sees seen names one b) is sees
 
 pub sees_false : (seen : Seen) (names : List Named) (one : Named) (there : Bool) → there ≡ false → Sees seen names one there → AreSeen seen (names ++ one ∷ [])
@@ -72,13 +73,13 @@ match_as (Some x) P R Q S f g own = g x own
 
 -- Repeats
 
-pub repeats_first : (names more : List Named) (one : Named) (name : List ℕ) (rest : List Named) → more ≡ one ∷ rest → word one ≡ name → IsAmong names one → AllDiffer names → RepeatsAfter names more name
+pub repeats_first : (names more : List Named) (one : Named) (name : List ℕ) (rest : List Named) → more ≡ one ∷ rest → word one ≡ name → IsIn names one → AllDiffer names → RepeatsAfter names more name
 repeats_first names more one name rest is called among differ = record {
   place = 0;
   one = one;
   at = ap (λ (zs : List Named). slice_get zs 0) is;
   called = called;
-  earlier = subst (λ (zs : List Named). IsAmong zs one) (sym none) among;
+  earlier = subst (λ (zs : List Named). IsIn zs one) (sym none) among;
   differ = subst (λ (zs : List Named). AllDiffer zs) (sym none) differ;
 }
   where
@@ -95,7 +96,7 @@ repeats_shift names a b name own = record {
   one = own.one;
   at = slice_get_right a b (length a + own.place) own.place own.one refl own.at;
   called = own.called;
-  earlier = subst (λ (zs : List Named). IsAmong zs own.one) same own.earlier;
+  earlier = subst (λ (zs : List Named). IsIn zs own.one) same own.earlier;
   differ = subst (λ (zs : List Named). AllDiffer zs) same own.differ;
 }
   where
@@ -108,7 +109,7 @@ repeats_widen names a b name own = record {
   one = own.one;
   at = slice_get_left a b own.place own.one own.at;
   called = own.called;
-  earlier = subst (λ (zs : List Named). IsAmong zs own.one) same own.earlier;
+  earlier = subst (λ (zs : List Named). IsIn zs own.one) same own.earlier;
   differ = subst (λ (zs : List Named). AllDiffer zs) same own.differ;
 }
   where

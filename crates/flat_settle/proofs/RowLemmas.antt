@@ -3,7 +3,7 @@ use Rattle.std.proofs.Common.{◌≡◌, ℕ, ◌+◌, ◌<◌, ◌≤◌, ◌^�
 use Rattle.std.proofs.lemmas.List.{length-append, get_or_append_left, get_or_push, get_or_past}
 use Rattle.std.proofs.lemmas.Bool.{cases_eq, cases_lt}
 use Rattle.std.proofs.lemmas.Option.{slice_get_within}
-use Rattle.net_core.specs.Netlist.{IsIn}
+use Rattle.net_graph.specs.Lists.{IsIn}
 use Rattle.net_core.proofs.ListLemmas.{slice_get_append, slice_get_left, slice_get_right}
 use Rattle.net_graph.specs.Rows.{RowHas, AreRows}
 use Rattle.flat_settle.specs.Tables.{row_of}

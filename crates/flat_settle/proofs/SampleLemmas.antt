@@ -4,7 +4,8 @@ use Rattle.std.proofs.lemmas.Option.{same_Some}
 use Rattle.net_core.specs.declared.parts.NetId.{NetId}
 use Rattle.net_core.specs.declared.parts.Pin.TheVariants as pins
 use Rattle.net_core.specs.Netlist.{net_count}
-use Rattle.net_core.specs.WellFormed.{Each, HasRange, IsIdentifier}
+use Rattle.net_core.specs.WellFormed.{HasRange, IsIdentifier}
+use Rattle.net_graph.specs.Lists.{Each}
 use Rattle.flat_settle.specs.declared.raw.RawCell.{RawCell}
 use Rattle.flat_settle.specs.Raw.{HasRawRow, IsUnfolded, clock_net}
 use Rattle.flat_settle.specs.Sample.{sample_link, sample_scalar, sample_raw}

@@ -8,14 +8,13 @@ use Rattle.std.proofs.lemmas.Bool.Decides.{Decides-eqb}
 use Rattle.std.proofs.lemmas.Fmt.{decimal_is_IsNumeral}
 use Rattle.std.proofs.lemmas.List.{append_cancel_right, length-append, get_or_past}
 use Rattle.std.proofs.lemmas.Option.{same_Some, slice_get_within, slice_get-get_or}
-use Rattle.net_core.specs.Netlist.{IsIn}
-use Rattle.net_core.specs.WellFormed.{AllDiffer, IsIdentifier, indexed_name}
+use Rattle.net_graph.specs.Lists.{IsIn, is_marked, AllDiffer}
+use Rattle.net_core.specs.WellFormed.{IsIdentifier, indexed_name}
 use Rattle.net_core.proofs.BitNameLemmas.{same_last, lacks_bracket}
 use Rattle.net_core.proofs.ListLemmas.{slice_get_append, slice_get_left, slice_get_right}
 use Rattle.flat_settle.specs.Refusals.{Named, Identifier, BitName, word}
 use Rattle.flat_settle.specs.declared.seen.Seen.{Seen}
-use Rattle.flat_settle.specs.Tables.{is_marked}
-use Rattle.flat_settle.specs.Naming.{Form, AsIdentifier, AsScalar, AsBit, named, IsWhole, IsFormOf, IsMet, AreSeen, IsAmong, Sees, Grows}
+use Rattle.flat_settle.specs.Naming.{Form, AsIdentifier, AsScalar, AsBit, named, IsWhole, IsFormOf, IsMet, AreSeen, Sees, Grows}
 
 pub identifier_ascii : (name : List ℕ) → IsIdentifier name → IsAscii name
 identifier_ascii name spelled i = elim (cases_lt i (length name)) [
@@ -93,7 +92,7 @@ only_last x y zero at = (same_Some x y at, refl)
 only_last x y (suc k) at = absurd (cc at)
 
 -- one more that is not among them keeps them different
-differ_more : (names : List Named) (one : Named) → AllDiffer names → ¬ IsAmong names one → AllDiffer (names ++ one ∷ [])
+differ_more : (names : List Named) (one : Named) → AllDiffer names → ¬ IsIn names one → AllDiffer (names ++ one ∷ [])
 differ_more names one differ none i j x at there = by (slice_get_append names (one ∷ []) i x at) (slice_get_append names (one ∷ []) j x there)
   where
     by : (slice_get names i ≡ Some x) ⊎ ((m : ℕ) × (i ≡ length names + m) × (slice_get (one ∷ []) m ≡ Some x)) → (slice_get names j ≡ Some x) ⊎ ((m : ℕ) × (j ≡ length names + m) × (slice_get (one ∷ []) m ≡ Some x)) → i ≡ j
@@ -102,13 +101,13 @@ differ_more names one differ none i j x at there = by (slice_get_append names (o
     by (inr a) (inl b) = absurd (none (j, b ∙ ap (λ (o : Named). Some o) (sym (only_last one x a.0 a.2).0)))
     by (inr a) (inr b) = omega (arith, a.1, b.1, (only_last one x a.0 a.2).1, (only_last one x b.0 b.2).1)
 
-among_more : (names : List Named) (one other : Named) → IsAmong (names ++ one ∷ []) other → IsAmong names other ⊎ (one ≡ other)
+among_more : (names : List Named) (one other : Named) → IsIn (names ++ one ∷ []) other → IsIn names other ⊎ (one ≡ other)
 among_more names one other (k, at) = elim (slice_get_append names (one ∷ []) k other at) [ inl here ↦ inl (k, here) | inr last ↦ inr (only_last one other last.0 last.2).0 ]
 
-among_before : (names : List Named) (one other : Named) → IsAmong names other → IsAmong (names ++ one ∷ []) other
+among_before : (names : List Named) (one other : Named) → IsIn names other → IsIn (names ++ one ∷ []) other
 among_before names one other (k, at) = (k, slice_get_left names (one ∷ []) k other at)
 
-among_last : (names : List Named) (one : Named) → IsAmong (names ++ one ∷ []) one
+among_last : (names : List Named) (one : Named) → IsIn (names ++ one ∷ []) one
 among_last names one = (length names + 0, slice_get_right names (one ∷ []) (length names + 0) 0 one refl refl)
 
 -- A front is met in one more form: the numbers grow, and what was met is what was met before and this
@@ -120,15 +119,15 @@ module _ (old new : Seen) (number : ℕ) (front : List ℕ) (form : Form) (at : 
   was_at : (n : ℕ) (x : List ℕ) → n < length old.fronts → slice_get new.fronts n ≡ Some x → slice_get old.fronts n ≡ Some x
   was_at n x low here = let own = there_is old.fronts n low in own.1 ∙ sym (grows n own.0 own.1) ∙ here
 
-  made_of : (n : ℕ) (x : List ℕ) (other : Form) → slice_get new.fronts n ≡ Some x → IsFormOf x other → IsAmong names (named x other) → IsMet old n other
+  made_of : (n : ℕ) (x : List ℕ) (other : Form) → slice_get new.fronts n ≡ Some x → IsFormOf x other → IsIn names (named x other) → IsMet old n other
   made_of n x other here is among =
       let own = seen.made (named x other) among in
       let parts = one_form own.front x own.form other own.is is own.tells in
       let same : own.number ≡ n = differ own.number n x (grows own.number own.front own.at ∙ ap (λ (y : List ℕ). Some y) parts.0) here in
-      let met = (seen.tells own.number own.front own.form own.at own.is).1 (subst (λ (o : Named). IsAmong names o) (sym own.tells) among) in
+      let met = (seen.tells own.number own.front own.form own.at own.is).1 (subst (λ (o : Named). IsIn names o) (sym own.tells) among) in
       subst (λ (m : ℕ). IsMet old m other) same (subst (λ (f : Form). IsMet old own.number f) parts.1 met)
 
-  pub met_before : IsMet old number form → IsAmong names (named front form)
+  pub met_before : IsMet old number form → IsIn names (named front form)
   met_before met =
       let low = seen.within number front form is_form met in
       (seen.tells number front form (was_at number front low at) is_form).0 met
@@ -152,17 +151,17 @@ module _ (old new : Seen) (number : ℕ) (front : List ℕ) (form : Form) (at : 
     differ = differ_more names (named front form) seen.differ (λ among. none (made_of number front form at is_form among));
   }
     where
-      to : (n : ℕ) (x : List ℕ) (other : Form) → slice_get new.fronts n ≡ Some x → IsFormOf x other → IsMet new n other → IsAmong (names ++ named front form ∷ []) (named x other)
+      to : (n : ℕ) (x : List ℕ) (other : Form) → slice_get new.fronts n ≡ Some x → IsFormOf x other → IsMet new n other → IsIn (names ++ named front form ∷ []) (named x other)
       to n x other here is met = elim ((meets n x other is).0 met) [
         | inl before ↦ (
             let low = seen.within n x other is before in
             among_before names (named front form) (named x other) ((seen.tells n x other (was_at n x low here) is).0 before))
         | inr now ↦ (
             let same : front ≡ x = same_Some _ _ (sym at ∙ ap (slice_get new.fronts) (sym now.0) ∙ here) in
-            subst (λ (o : Named). IsAmong (names ++ named front form ∷ []) o) (ap (λ (y : List ℕ). named y form) same ∙ ap (named x) (sym now.1)) (among_last names (named front form)))
+            subst (λ (o : Named). IsIn (names ++ named front form ∷ []) o) (ap (λ (y : List ℕ). named y form) same ∙ ap (named x) (sym now.1)) (among_last names (named front form)))
       ]
 
-      from : (n : ℕ) (x : List ℕ) (other : Form) → slice_get new.fronts n ≡ Some x → IsFormOf x other → IsAmong (names ++ named front form ∷ []) (named x other) → IsMet new n other
+      from : (n : ℕ) (x : List ℕ) (other : Form) → slice_get new.fronts n ≡ Some x → IsFormOf x other → IsIn (names ++ named front form ∷ []) (named x other) → IsMet new n other
       from n x other here is among = (meets n x other is).1 (elim (among_more names (named front form) (named x other) among) [
         | inl before ↦ inl (made_of n x other here is before)
         | inr now ↦ (
@@ -176,7 +175,7 @@ pub ok_with : {T E : Type 0} (r : Result T E) (P R : T → Type 0) (Q : Type 0) 
 ok_with (Ok x) P R Q gives one other = gives x one other
 ok_with (Err e) P R Q gives one other = one
 
-pub sees_marked : (old new : Seen) (names : List Named) (number : ℕ) (front : List ℕ) (form : Form) (there was : Bool) → there ≡ was → (was ≡ true → IsAmong names (named front form))
+pub sees_marked : (old new : Seen) (names : List Named) (number : ℕ) (front : List ℕ) (form : Form) (there was : Bool) → there ≡ was → (was ≡ true → IsIn names (named front form))
     → ((¬ (was ≡ true)) → AreSeen new (names ++ named front form ∷ [])) → Sees new names (named front form) there
 sees_marked old new names number front form there was is before more = by there is
   where

@@ -3,7 +3,8 @@ use Rattle.std.specs.Prelude.{◌≡◌, ℕ, true, false, List, [], ◌∷◌, 
 use Rattle.net_core.specs.declared.parts.Pin.TheVariants as pins
 use Rattle.net_core.specs.declared.parts.Cell.{Cell}
 use Rattle.net_core.specs.CellTable.{is_clock_buffer}
-use Rattle.net_core.specs.Netlist.{IsIn, input_bits}
+use Rattle.net_core.specs.Netlist.{input_bits}
+use Rattle.net_graph.specs.Lists.{IsIn}
 use Rattle.flat_settle.specs.declared.raw.RawCell.{RawCell}
 use Rattle.flat_settle.specs.declared.raw.Raw.{Raw}
 use Rattle.flat_settle.specs.Raw.{RawDrives, RawReads, flat_cell, with_cells}

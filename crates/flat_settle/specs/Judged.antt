@@ -7,7 +7,8 @@ use Rattle.flat_settle.specs.declared.raw.Unsettled.{Unsettled}
 use Rattle.flat_settle.specs.declared.raw.Unsettled.TheVariants as faults
 use Rattle.flat_settle.specs.declared.judge.Kept.{Kept}
 use Rattle.flat_settle.specs.Refusals.{IsFirst, HasTwoSources, IsOnClockPin, IsRead, IsReadAsData, Never}
-use Rattle.flat_settle.specs.Tables.{is_marked, IsSomewhere, PortHas}
+use Rattle.flat_settle.specs.Tables.{IsSomewhere, PortHas}
+use Rattle.net_graph.specs.Lists.{is_marked}
 
 abbrev pub kept_parts : Kept → Parts
 kept_parts kept = record { groups = kept.groups; cells = kept.cells; ports = kept.ports; clock = kept.clock }

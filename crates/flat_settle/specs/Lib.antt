@@ -5,4 +5,3 @@ pub mod Tables
 pub mod Judged
 pub mod Naming
 pub mod Sample
-pub mod Places

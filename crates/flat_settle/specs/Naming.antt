@@ -1,10 +1,9 @@
 -- Names that were met, by numbers.
 use Rattle.std.specs.Prelude.{◌≡◌, ◌≢◌, ◌↔◌, ℕ, ◌+◌, ◌*◌, ◌^◌, ◌<◌, ◌≤◌, Bool, true, List, [], ◌∷◌, ◌++◌, take, length, slice_get, Some, MatchBool, ⊤}
-use Rattle.net_core.specs.Netlist.{IsIn}
-use Rattle.net_core.specs.WellFormed.{AllDiffer, indexed_name}
+use Rattle.net_graph.specs.Lists.{IsIn, is_marked, AllDiffer}
+use Rattle.net_core.specs.WellFormed.{indexed_name}
 use Rattle.flat_settle.specs.declared.seen.Seen.{Seen}
 use Rattle.flat_settle.specs.Refusals.{Named, Identifier, BitName, word}
-use Rattle.flat_settle.specs.Tables.{is_marked}
 
 -- what a front names: a group or a cell, a scalar's bit, or a bit of a vector by its index
 pub data Form : Type 0 where
@@ -42,21 +41,18 @@ pub record IsMadeOf (fronts : List (List ℕ)) (one : Named) : Type 0 where
   pub is : IsFormOf front form
   pub tells : named front form ≡ one
 
-abbrev pub IsAmong : List Named → Named → Type 0
-IsAmong names one = (k : ℕ) × (slice_get names k ≡ Some one)
-
 -- these names were met, which are all different
 pub record AreSeen (seen : Seen) (names : List Named) : Type 0 where
   pub fronts_differ : AllDiffer seen.fronts
   pub few : length seen.fronts ≤ length names
   pub within : (number : ℕ) (front : List ℕ) (form : Form) → IsFormOf front form → IsMet seen number form → number < length seen.fronts
-  pub tells : (number : ℕ) (front : List ℕ) (form : Form) → slice_get seen.fronts number ≡ Some front → IsFormOf front form → IsMet seen number form ↔ IsAmong names (named front form)
-  pub made : (one : Named) → IsAmong names one → IsMadeOf seen.fronts one
+  pub tells : (number : ℕ) (front : List ℕ) (form : Form) → slice_get seen.fronts number ≡ Some front → IsFormOf front form → IsMet seen number form ↔ IsIn names (named front form)
+  pub made : (one : Named) → IsIn names one → IsMadeOf seen.fronts one
   pub differ : AllDiffer names
 
 -- one more was met: it is among the names, or stands behind them
 abbrev pub Sees : Seen → List Named → Named → Bool → Type 0
-Sees seen names one there = MatchBool there (IsAmong names one) (AreSeen seen (names ++ one ∷ []))
+Sees seen names one there = MatchBool there (IsIn names one) (AreSeen seen (names ++ one ∷ []))
 
 -- an item of the list is among the names or earlier in the list, and all before it are different
 pub record RepeatsAfter (names more : List Named) (name : List ℕ) : Type 0 where
@@ -64,7 +60,7 @@ pub record RepeatsAfter (names more : List Named) (name : List ℕ) : Type 0 whe
   pub one : Named
   pub at : slice_get more place ≡ Some one
   pub called : word one ≡ name
-  pub earlier : IsAmong (names ++ take place more) one
+  pub earlier : IsIn (names ++ take place more) one
   pub differ : AllDiffer (names ++ take place more)
 
 -- each number keeps its item

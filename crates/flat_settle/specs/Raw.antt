@@ -2,6 +2,7 @@
 use Rattle.std.specs.Prelude.{◌≡◌, ℕ, ◌+◌, ◌<◌, ◌≤◌, ◌++◌, true, false, is_some, IsSome, IfSome, List, [], ◌∷◌, length, map, filter_map, sum_by, slice_get, Option, Some, None, MatchBool}
 use Rattle.std.specs.List.{range_with_len}
 use Rattle.std.specs.Option.{option_map_or}
+use Rattle.ila_base.specs.declared.refusal.LimitKind.TheVariants.{Cells, Pins, Nets, AllNames}
 use Rattle.net_core.specs.declared.parts.NetId.{NetId}
 use Rattle.net_core.specs.declared.parts.Pin.{Pin}
 use Rattle.net_core.specs.declared.parts.Pin.TheVariants as pins
@@ -12,7 +13,8 @@ use Rattle.net_core.specs.declared.kind.CellKind.TheVariants.{Gate}
 use Rattle.net_core.specs.declared.kind.GateCode.TheVariants.{Buf}
 use Rattle.net_core.specs.CellTable.{IsPinCount, input_widths, output_widths, IsAllowed, is_storage, is_gate}
 use Rattle.net_core.specs.Netlist.{Parts, port_nets, all_nets, net_count}
-use Rattle.net_core.specs.WellFormed.{Each, HasRange, AreWhole, IsIdentifier}
+use Rattle.net_core.specs.WellFormed.{HasRange, AreWhole, IsIdentifier, greatest}
+use Rattle.net_graph.specs.Lists.{Each}
 use Rattle.flat_settle.specs.declared.raw.RawCell.{RawCell}
 use Rattle.flat_settle.specs.declared.raw.Raw.{Raw}
 
@@ -70,12 +72,12 @@ pub record NamesNets (raw : Raw) : Type 0 where
   pub inputs : (c : ℕ) (cell : RawCell) (i n : ℕ) → RawReads raw.cells c cell i n → n < net_count raw.groups
   pub clocks : (c : ℕ) (cell : RawCell) (net : NetId) → slice_get raw.cells c ≡ Some cell → clock_net cell.clock ≡ Some net → net.0 < net_count raw.groups
 
--- at most 1,048,576 cells and net bits, 16,777,216 pins, and 67,108,864 bytes of identifiers
+-- no count is above the limit of a flat netlist
 pub record HasRawLimits (raw : Raw) : Type 0 where
-  pub cells : length raw.cells ≤ 1048576
-  pub nets : net_count raw.groups ≤ 1048576
-  pub pins : sum_by raw_pin_count raw.cells ≤ 16777216
-  pub names : sum_by length (raw_identifiers raw) ≤ 67108864
+  pub cells : length raw.cells ≤ greatest Cells
+  pub nets : net_count raw.groups ≤ greatest Nets
+  pub pins : sum_by raw_pin_count raw.cells ≤ greatest Pins
+  pub names : sum_by length (raw_identifiers raw) ≤ greatest AllNames
 
 -- the clock port's bit: the one bit of an input
 pub record HasClockPort (raw : Raw) : Type 0 where

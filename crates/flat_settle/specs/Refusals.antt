@@ -7,7 +7,8 @@ use Rattle.net_core.specs.declared.parts.Pin.TheVariants as pins
 use Rattle.net_core.specs.declared.parts.Cell.{Cell}
 use Rattle.net_core.specs.declared.parts.Group.{Group}
 use Rattle.net_core.specs.CellTable.{is_clock_buffer}
-use Rattle.net_core.specs.Netlist.{Parts, Drives, Reads, HasDriver, IsIn, IsClock, input_bits, output_bits}
+use Rattle.net_core.specs.Netlist.{Parts, Drives, Reads, HasDriver, IsClock, input_bits, output_bits}
+use Rattle.net_graph.specs.Lists.{IsIn}
 use Rattle.net_core.specs.Netlist as flat
 use Rattle.net_core.specs.WellFormed.{bit_names, net_names}
 use Rattle.flat_settle.specs.declared.raw.RawCell.{RawCell}

@@ -8,15 +8,13 @@ use Rattle.net_core.specs.declared.parts.Cell.{Cell}
 use Rattle.net_core.specs.declared.parts.Group.{Group}
 use Rattle.net_core.specs.declared.parts.Port.{Port}
 use Rattle.net_core.specs.CellTable.{is_clock_buffer}
-use Rattle.net_core.specs.Netlist.{Drives, IsIn, port_nets}
+use Rattle.net_core.specs.Netlist.{Drives, port_nets}
+use Rattle.net_graph.specs.Lists.{IsIn, is_marked}
+use Rattle.net_core.specs.Drivers.{HasOutput}
 use Rattle.net_core.specs.Tables.{IsOn}
 use Rattle.flat_settle.specs.declared.raw.RawCell.{RawCell}
-use Rattle.flat_settle.specs.declared.owners.Output.{Output}
+use Rattle.net_core.specs.declared.drivers.Output.{Output}
 use Rattle.flat_settle.specs.Driven.{ReadsConstant}
-
--- the mark of a net
-abbrev pub is_marked : List Bool → ℕ → Bool
-is_marked marks n = slice_index_or marks n false
 
 -- Steps: for the driven bits along links, for the clock set along clock buffers
 
@@ -103,27 +101,7 @@ ReadHas all c cell n = (counts all cell.kind ≡ true) × IsSomewhere PinHas cel
 abbrev pub ClockHas : ℕ → Cell → ℕ → Type 0
 ClockHas c cell n = cell.clock ≡ Some (record { 0 = n })
 
--- Owners: for each net an output pin that drives it
-
--- output pin k is on net n
-abbrev pub IsOutOn : List (Option NetId) → ℕ → ℕ → Type 0
-IsOutOn outs k n = slice_get outs k ≡ Some (Some (record { 0 = n }))
-
--- the table names this output pin for net n
-abbrev pub HasOutput : List (Option Output) → ℕ → Output → Type 0
-HasOutput table n own = slice_get table n ≡ Some (Some own)
-
--- the nets of the output pins below the bound of cell c get such a pin, and the others keep theirs
-pub record NamesOutputs (outs : List (Option NetId)) (c bound : ℕ) (old new : List (Option Output)) : Type 0 where
-  pub size : length new ≡ length old
-  pub sound : (n : ℕ) (own : Output) → HasOutput new n own → HasOutput old n own ⊎ ((own.cell ≡ c) × IsOutOn outs own.pin n)
-  pub stays : (n : ℕ) (own : Output) → HasOutput old n own → (later : Output) × HasOutput new n later
-  pub fed : (k n : ℕ) → k < bound → IsOutOn outs k n → (own : Output) × HasOutput new n own
-
--- each net has an output pin that is on it, where a cell below the bound has one
-pub record AreOwners (cells : List Cell) (bound : ℕ) (table : List (Option Output)) : Type 0 where
-  pub sound : (n : ℕ) (own : Output) → HasOutput table n own → (cell : Cell) × Drives cells own.cell cell own.pin n
-  pub complete : (c : ℕ) (cell : Cell) (k n : ℕ) → c < bound → Drives cells c cell k n → (own : Output) × HasOutput table n own
+-- Net bits with two sources
 
 -- output pin k of cell c is on net n, which is an input or has another pin in the table
 abbrev pub SharedPinHas : List (Option Output) → List Bool → ℕ → ℕ → Option NetId → ℕ → Type 0

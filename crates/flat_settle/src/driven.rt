@@ -3,7 +3,8 @@ ghost use Rattle.std.specs.Prelude.{◌≡◌, ℕ, ◌^◌, ◌<◌, ◌↔◌,
 ghost use Rattle.net_core.specs.Netlist.{net_count};
 ghost use Rattle.flat_settle.specs.Raw.{IsUnfolded};
 ghost use Rattle.flat_settle.specs.Driven.{IsDriven, IsClocked};
-ghost use Rattle.flat_settle.specs.Tables.{Appends, IsSomewhere, IsSeedCell, SeedHas, is_marked};
+ghost use Rattle.flat_settle.specs.Tables.{Appends, IsSomewhere, IsSeedCell, SeedHas};
+ghost use Rattle.net_graph.specs.Lists.{is_marked};
 
 use crate::pushes::push_ports;
 use crate::raw::{Raw, RawCell};

@@ -1,18 +1,18 @@
 //! The refusals of a netlist without its dropped links.
 ghost use Rattle.std.specs.Prelude.{◌≡◌, ℕ, ◌<◌, IfOk, IfErr, OnOk, length, slice_get, Some};
 ghost use Rattle.net_core.specs.Netlist.{net_count};
-ghost use Rattle.net_core.specs.WellFormed.{Each, HasRange, net_names};
+ghost use Rattle.net_core.specs.WellFormed.{HasRange, net_names};
+ghost use Rattle.net_graph.specs.Lists.{Each};
 ghost use Rattle.flat_settle.specs.Refusals.{HasTwoSources};
 ghost use Rattle.flat_settle.specs.Tables.{IsLeastOf};
 ghost use Rattle.flat_settle.specs.Judged.{kept_parts, HasMarks, IsReadUndriven, IsOffClock, IsReadClock, IsJudgedFault, IsJudgedSound, IsClockSound, IsClockFault};
 
-use crate::bit_name::bit_name;
 use crate::marks::{first_with, marks_of};
-use crate::owners::{owners, push_shared};
+use crate::owners::push_shared;
 use crate::pushes::{push_clocks, push_ports, push_reads};
 use crate::raw::Unsettled;
 use ila_base::{Items, Name, NoMemory};
-use net_core::{Cell, Group, NetId, Port};
+use net_core::{Cell, Group, NetId, Port, bit_name, driver_table};
 use std::alloc::Global;
 
 /// A netlist without its dropped links.
@@ -32,7 +32,7 @@ fn first_shared(alloc: Global, kept: &Kept, count: usize) -> Result<Option<u32>,
     let mut list = Items::new(alloc);
     push_ports(&mut list, &kept.groups, kept.ports.as_slice(), false)?;
     let inputs = marks_of(alloc, count, list.as_slice())?;
-    let table = owners(alloc, count, kept.cells.as_slice())?;
+    let table = driver_table(alloc, count, kept.cells.as_slice())?;
     let mut shared = Items::new(alloc);
     push_shared(
         &mut shared,

@@ -2,12 +2,10 @@
 //! is a flat netlist, or is refused.
 #![tactic(auto)]
 
-mod bit_name;
 mod driven;
 mod judge;
 mod keep;
 mod marks;
-mod names;
 mod numbers;
 mod owners;
 mod pushes;
@@ -19,6 +17,5 @@ mod steps;
 #[cfg(test)]
 mod tests;
 
-pub use names::net_names;
 pub use raw::{Raw, RawCell, Unsettled};
 pub use settled::settle;

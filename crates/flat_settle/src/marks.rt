@@ -1,7 +1,7 @@
 //! Marks of net bits, and the first of them.
 ghost use Rattle.std.specs.Prelude.{◌≡◌, ℕ, ◌<◌, ◌^◌, ◌↔◌, true, IfOk, MatchOption, length};
-ghost use Rattle.net_core.specs.Netlist.{IsIn};
-ghost use Rattle.flat_settle.specs.Tables.{is_marked, IsFirstWith};
+ghost use Rattle.net_graph.specs.Lists.{IsIn, is_marked};
+ghost use Rattle.flat_settle.specs.Tables.{IsFirstWith};
 
 use ila_base::NoMemory;
 use std::alloc::Global;

@@ -1,6 +1,6 @@
 //! Numbers for names.
 ghost use Rattle.std.specs.Prelude.{◌≡◌, ◌≤◌, ◌+◌, [], IfOk, OnOk, length, slice_get, Some};
-ghost use Rattle.net_core.specs.WellFormed.{AllDiffer};
+ghost use Rattle.net_graph.specs.Lists.{AllDiffer};
 ghost use Rattle.flat_settle.specs.Naming.{Grows};
 
 use ila_base::NoMemory;

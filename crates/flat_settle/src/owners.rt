@@ -1,44 +1,12 @@
 //! Net bits with two sources.
 ghost use Rattle.std.specs.Prelude.{◌≡◌, ℕ, ◌<◌, ◌↔◌, true, IfOk, OnOk, IsTrue, length, ◌⊎◌};
-ghost use Rattle.net_core.specs.Netlist.{HasDriver};
-ghost use Rattle.flat_settle.specs.Tables.{IsOutOn, NamesOutputs, AreOwners, Appends, IsSomewhere, SharedPinHas, SharedHas, HasOutput, is_marked};
+ghost use Rattle.flat_settle.specs.Tables.{Appends, IsSomewhere, SharedPinHas, SharedHas};
+ghost use Rattle.net_core.specs.Drivers.{HasOutput};
+ghost use Rattle.net_graph.specs.Lists.{is_marked};
 
 use ila_base::{Items, NoMemory};
-use net_core::{Cell, NetId};
+use net_core::{Cell, NetId, Output};
 use std::alloc::Global;
-
-// An output pin, by its number in its cell and the cell's.
-#[derive(Clone, Copy, Debug, Drop)]
-pub struct Output {
-    pub cell: usize,
-    pub pin: usize,
-}
-
-// Names the output pins of a cell for their nets.
-fn feed(table: &mut Vec<Option<Output>>, outs: &[Option<NetId>], cell: usize)
-    requires { (k n : ℕ) → IsOutOn outs.now k n → n < length table.old.items }
-    ensures { NamesOutputs outs.now cell (length outs.now) table.old.items table.new.items }
-{
-    for (pin, out) in outs.iter().enumerate() {
-        match out {
-            Some(net) => table[net.0 as usize] = Some(Output { cell, pin }),
-            None => {}
-        }
-    }
-}
-
-/// For each net an output pin that drives it.
-pub fn owners(alloc: Global, count: usize, cells: &[Cell]) -> Result<Vec<Option<Output>>, NoMemory>
-    requires { (n : ℕ) → HasDriver cells.now n → n < count }
-    ensures size { IfOk result (λ table. length table.items ≡ count) }
-    ensures named { IfOk result (λ table. AreOwners cells.now (length cells.now) table.items) }
-{
-    let mut table = vec![in alloc; None; count]?;
-    for (number, cell) in cells.iter().enumerate() {
-        feed(&mut table, cell.outs.as_slice(), number);
-    }
-    Ok(table)
-}
 
 // Puts the net of an output pin behind a list, where it is an input or has another pin in the table.
 fn push_shared_pin(

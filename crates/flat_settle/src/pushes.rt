@@ -1,10 +1,10 @@
 //! The numbers of net bits that ports, pins and cells name, put behind a list.
 ghost use Rattle.std.specs.Prelude.{◌≡◌, ◌^◌, ◌<◌, Some, OnOk, IfOk, not, ◌||◌};
-ghost use Rattle.net_core.specs.Netlist.{IsIn, net_count, port_nets};
+ghost use Rattle.net_core.specs.Netlist.{net_count, port_nets};
+ghost use Rattle.net_graph.specs.Lists.{IsIn};
 ghost use Rattle.net_core.specs.Tables.{IsAmongNets};
 ghost use Rattle.flat_settle.specs.Tables.{Appends, IsSomewhere, PinHas, PortHas, ReadHas, ClockHas, counts};
 
-use crate::steps::is_clock_buffer;
 use ila_base::{Items, NoMemory};
 use net_core::{Cell, CellKind, Group, NetId, Pin, Port};
 
@@ -83,7 +83,7 @@ pub fn push_ports(
 fn is_counted(kind: CellKind, all: bool) -> bool
     ensures { result ≡ counts all kind }
 {
-    all || !is_clock_buffer(kind)
+    all || !kind.is_clock_buffer()
 }
 
 // Puts the nets that a cell reads behind a list, where its reads count.

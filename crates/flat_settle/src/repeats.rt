@@ -1,18 +1,19 @@
 //! The first name in flat order that an earlier one equals.
 ghost use Rattle.std.specs.Prelude.{◌≡◌, ℕ, ◌+◌, ◌-◌, ◌^◌, ◌<◌, ◌≤◌, List, [], ◌∷◌, ◌++◌, map, flat_map, IfOk, OnOk, MatchOption, MatchBool, length, Some, slice_get};
-ghost use Rattle.net_core.specs.WellFormed.{Each, HasRange, IsIdentifier, bit_names, range_indices, indexed_name};
+ghost use Rattle.net_core.specs.WellFormed.{HasRange, IsIdentifier, bit_names, range_indices, indexed_name};
+ghost use Rattle.net_graph.specs.Lists.{Each, IsIn};
 ghost use Rattle.net_core.specs.declared.parts.Group.{Group as GroupOf};
 ghost use Rattle.flat_settle.specs.Raw.{IsUnfolded};
 ghost use Rattle.flat_settle.specs.Refusals.{Named, Identifier, BitName, group_names, cell_names, flat_order, HasRepeat, IsFirstRepeat};
-ghost use Rattle.flat_settle.specs.Naming.{AreSeen, IsAmong, Sees, RepeatsAfter};
+ghost use Rattle.flat_settle.specs.Naming.{AreSeen, Sees, RepeatsAfter};
 
-use crate::bit_name::{index_at, indexed};
 use crate::numbers::Numbers;
 use crate::raw::{Raw, RawCell};
 use crate::seen::{Seen, see_bit, see_form, see_identifier, see_whole, split};
+use ila_base::limits::GREATEST_INDEX;
 use ila_base::{Name, NoMemory};
 use indexmap::IndexSet;
-use net_core::Group;
+use net_core::{Group, index_at, indexed};
 use std::alloc::Global;
 
 // Meets the bit of a scalar, whose name may have the form of a vector's bit.
@@ -41,7 +42,7 @@ fn see_vector(
 ) -> Result<Option<Name>, NoMemory>
     requires at { slice_get seen.old.fronts number ≡ Some front.now }
     requires few { length seen.old.fronts < 2 ^ 30 }
-    requires small { (left ≤ 1048575) × (right ≤ 1048575) }
+    requires small { (left ≤ GREATEST_INDEX) × (right ≤ GREATEST_INDEX) }
     requires count { count ≡ (left - right) + (right - left) + 1 }
     ensures { IfOk result (λ found. (names : List Named) → AreSeen seen.old names → MatchOption found (AreSeen seen.new (names ++ map BitName (map (indexed_name front.now) (range_indices left right)))) (λ name. RepeatsAfter names (map BitName (map (indexed_name front.now) (range_indices left right))) name)) }
 {
@@ -134,7 +135,7 @@ fn see_cell<'a>(
 ) -> Result<Option<Name>, NoMemory>
     requires { length seen.old.fronts < 2 ^ 30 }
     ensures few { OnOk result (length seen.new.fronts ≤ length seen.old.fronts + 1) }
-    ensures sees { IfOk result (λ found. (names : List Named) → AreSeen seen.old names → MatchOption found (AreSeen seen.new (names ++ cell_names (cell.now ∷ []))) (λ name. (cell.now.name ≡ Some name) × IsAmong names (Identifier name))) }
+    ensures sees { IfOk result (λ found. (names : List Named) → AreSeen seen.old names → MatchOption found (AreSeen seen.new (names ++ cell_names (cell.now ∷ []))) (λ name. (cell.now.name ≡ Some name) × IsIn names (Identifier name))) }
 {
     match &cell.name {
         Some(name) => {

@@ -1,9 +1,8 @@
 //! Names that were met in flat order.
 ghost use Rattle.std.specs.Prelude.{◌≡◌, ◌↔◌, ◌⊎◌, ℕ, ◌+◌, ◌*◌, ◌^◌, ◌<◌, ◌≤◌, true, List, [], ◌∷◌, ◌++◌, IfOk, OnOk, IfSome, IfNone, MatchBool, length, slice_get, Some};
-ghost use Rattle.net_core.specs.Netlist.{IsIn};
+ghost use Rattle.net_graph.specs.Lists.{IsIn, is_marked};
 ghost use Rattle.net_core.specs.WellFormed.{indexed_name, IsIdentifier};
 ghost use Rattle.flat_settle.specs.Refusals.{Named, Identifier, BitName};
-ghost use Rattle.flat_settle.specs.Tables.{is_marked};
 ghost use Rattle.flat_settle.specs.Naming.{IsWhole, AreSeen, Sees};
 
 use crate::numbers::Numbers;

@@ -1,26 +1,15 @@
 //! The steps from net to net: along links for the driven bits, along clock buffers for the clock set.
 ghost use Rattle.std.specs.Prelude.{◌≡◌, ℕ, ◌<◌, ◌≤◌, ◌^◌, ◌↔◌, true, List, IfOk, IfSome, IfNone, OnOk, length, slice_get, Some};
-ghost use Rattle.net_core.specs.CellTable as kinds;
-ghost use Rattle.net_core.specs.Netlist.{IsIn};
+ghost use Rattle.net_graph.specs.Lists.{IsIn, is_marked};
 ghost use Rattle.net_core.specs.Tables.{IsOn};
 ghost use Rattle.net_graph.specs.Graph.{Leads, node_count};
-ghost use Rattle.flat_settle.specs.Tables.{LeadsFrom, IsStep, Appends, AreSteps, Spreads, row_of, is_marked};
+ghost use Rattle.flat_settle.specs.Tables.{LeadsFrom, IsStep, Appends, AreSteps, Spreads, row_of};
 
 use crate::raw::RawCell;
 use ila_base::{Items, NoMemory};
-use net_core::{CellKind, GateCode, NetId, Pin};
+use net_core::{NetId, Pin};
 use net_graph::{Graph, reaching};
 use std::alloc::Global;
-
-// Whether the kind leads the clock on.
-pub fn is_clock_buffer(kind: CellKind) -> bool
-    ensures { result ≡ kinds.is_clock_buffer kind }
-{
-    matches!(
-        kind,
-        CellKind::Ibuf | CellKind::Bufg | CellKind::Gate(GateCode::Buf)
-    )
-}
 
 // The net from which the cell leads on: for the clock set each clock buffer does, else each link.
 fn leads_from(cell: &RawCell, clock: bool) -> Option<NetId>
@@ -28,7 +17,7 @@ fn leads_from(cell: &RawCell, clock: bool) -> Option<NetId>
     ensures missing { IfNone result ((m : ℕ) → ¬ LeadsFrom clock cell.now m) }
 {
     let leads = if clock {
-        is_clock_buffer(cell.kind)
+        cell.kind.is_clock_buffer()
     } else {
         cell.link
     };

@@ -2,9 +2,9 @@
 ghost use Rattle.std.specs.Prelude.{◌≡◌, [], ◌∷◌, None, IfOk};
 ghost use Rattle.flat_settle.specs.Sample.{sample_link, sample_raw};
 
-use crate::{Raw, RawCell, Unsettled, net_names, settle};
+use crate::{Raw, RawCell, Unsettled, settle};
 use ila_base::{Items, Name, NoMemory};
-use net_core::{CellKind, Flat, GateCode, Group, NetId, Pin, Port};
+use net_core::{CellKind, Flat, GateCode, Group, NetId, Pin, Port, net_names};
 use std::alloc::Global;
 use std::test::Fail;
 

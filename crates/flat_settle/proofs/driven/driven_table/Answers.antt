@@ -1,6 +1,6 @@
 use Rattle.std.proofs.Common.{◌⊎◌, ◌↔◌, ℕ, List, false, slice_get, ap, sym, ◌∙◌, subst, arith}
 use Rattle.net_core.specs.declared.parts.Port.{Port}
-use Rattle.net_core.specs.Netlist.{IsIn}
+use Rattle.net_graph.specs.Lists.{IsIn}
 use Rattle.net_core.proofs.ClockLemmas.{ok_then}
 use Rattle.flat_settle.specs.declared.raw.RawCell.{RawCell}
 use Rattle.flat_settle.specs.Tables.{Appends, IsStep, IsSomewhere, PortHas, SeedHas}

@@ -1,9 +1,9 @@
 use Rattle.std.proofs.Common.{◌≡◌, ◌↔◌, ℕ, List, Bool, true, false, MatchOption, sym, subst}
 use Rattle.net_core.specs.declared.parts.Cell.{Cell}
-use Rattle.net_core.specs.Netlist.{IsIn}
+use Rattle.net_graph.specs.Lists.{IsIn, is_marked}
 use Rattle.flat_settle.specs.Refusals.{IsOnClockPin}
 use Rattle.flat_settle.specs.Refusals as refusals
-use Rattle.flat_settle.specs.Tables.{Appends, IsSomewhere, ClockHas, is_marked, IsFirstWith}
+use Rattle.flat_settle.specs.Tables.{Appends, IsSomewhere, ClockHas, IsFirstWith}
 use Rattle.flat_settle.proofs.DrivenLemmas.{only_of}
 use Rattle.flat_settle.proofs.JudgeLemmas.{least_from, marks_tell}
 use Rattle.flat_settle.proofs.judge.first_off_clock.Goals as goal

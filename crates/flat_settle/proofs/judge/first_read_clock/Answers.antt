@@ -1,10 +1,10 @@
 use Rattle.std.proofs.Common.{◌≡◌, ◌↔◌, ℕ, List, Bool, true, false, MatchOption, sym, subst}
 use Rattle.net_core.specs.declared.parts.Cell.{Cell}
 use Rattle.net_core.specs.declared.parts.Port.{Port}
-use Rattle.net_core.specs.Netlist.{IsIn}
+use Rattle.net_graph.specs.Lists.{IsIn, is_marked}
 use Rattle.flat_settle.specs.Refusals.{IsReadAsData}
 use Rattle.flat_settle.specs.Judged.{kept_parts}
-use Rattle.flat_settle.specs.Tables.{Appends, IsSomewhere, ReadHas, PortHas, is_marked, IsFirstWith}
+use Rattle.flat_settle.specs.Tables.{Appends, IsSomewhere, ReadHas, PortHas, IsFirstWith}
 use Rattle.flat_settle.proofs.DrivenLemmas.{ends_of}
 use Rattle.flat_settle.proofs.JudgeLemmas.{least_from, marks_tell, data_from, data_to, data_read}
 use Rattle.flat_settle.proofs.judge.first_read_clock.Goals as goal

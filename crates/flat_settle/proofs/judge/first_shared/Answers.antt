@@ -1,11 +1,13 @@
 use Rattle.std.proofs.Common.{◌≡◌, ◌↔◌, ℕ, List, Option, Bool, true, false, length, MatchOption, sym, subst}
 use Rattle.net_core.specs.declared.parts.Cell.{Cell}
 use Rattle.net_core.specs.declared.parts.Port.{Port}
-use Rattle.net_core.specs.Netlist.{IsIn, HasDriver}
-use Rattle.flat_settle.specs.declared.owners.Output.{Output}
+use Rattle.net_core.specs.Netlist.{HasDriver}
+use Rattle.net_graph.specs.Lists.{IsIn, is_marked}
+use Rattle.net_core.specs.declared.drivers.Output.{Output}
 use Rattle.flat_settle.specs.Refusals.{HasTwoSources}
 use Rattle.flat_settle.specs.Judged.{kept_parts}
-use Rattle.flat_settle.specs.Tables.{Appends, IsSomewhere, PortHas, SharedHas, AreOwners, is_marked, IsFirstWith}
+use Rattle.flat_settle.specs.Tables.{Appends, IsSomewhere, PortHas, SharedHas, IsFirstWith}
+use Rattle.net_core.specs.Drivers.{AreDrivers}
 use Rattle.flat_settle.proofs.DrivenLemmas.{only_of}
 use Rattle.flat_settle.proofs.JudgeLemmas.{least_marked, marks_tell, shared_from, shared_to, two_driven}
 use Rattle.flat_settle.proofs.judge.first_shared.Goals as goal
@@ -19,16 +21,16 @@ inputs_listed c = subst (λ (xs : List ℕ). (n : ℕ) → IsIn xs n ↔ IsSomew
 pub marks_of-requires : goal.marks_of-requires
 marks_of-requires c = λ n own. c.requires.ports false n ((inputs_listed c n).0 own)
 
-pub owners-requires : goal.owners-requires
-owners-requires c = λ n driver. c.requires.drivers n (subst (λ (cells : List Cell). HasDriver cells n) c.as_slice-3.ensures driver)
+pub driver_table-requires : goal.driver_table-requires
+driver_table-requires c = λ n driver. c.requires.drivers n (subst (λ (cells : List Cell). HasDriver cells n) c.as_slice-3.ensures driver)
 
 inputs_listed_later : (c : After-as_slice-7) → (n : ℕ) → IsIn c.as_slice-2.result.now n ↔ IsSomewhere (PortHas c.args.kept.now.groups false) c.args.kept.now.ports n
 inputs_listed_later c = subst (λ (xs : List ℕ). (n : ℕ) → IsIn xs n ↔ IsSomewhere (PortHas c.args.kept.now.groups false) c.args.kept.now.ports n) (sym c.as_slice-2.ensures)
     (only_of c.new-list.result c.push_ports.new.list (IsSomewhere (PortHas c.args.kept.now.groups false) c.args.kept.now.ports) c.new-list.ensures
     (subst (λ (ports : List Port). Appends c.new-list.result c.push_ports.new.list (IsSomewhere (PortHas c.args.kept.now.groups false) ports)) c.as_slice.ensures c.in_ok-push_ports.ensures))
 
-owned : (c : After-as_slice-7) → AreOwners c.args.kept.now.cells (length c.args.kept.now.cells) c.in_ok-table.table.items
-owned c = subst (λ (cells : List Cell). AreOwners cells (length cells) c.in_ok-table.table.items) c.as_slice-3.ensures c.in_ok-table.ensures.named
+owned : (c : After-as_slice-7) → AreDrivers c.args.kept.now.cells (length c.args.kept.now.cells) c.in_ok-table.table.items
+owned c = subst (λ (cells : List Cell). AreDrivers cells (length cells) c.in_ok-table.table.items) c.as_slice-3.ensures c.in_ok-table.ensures.named
 
 inputs_told : (c : After-as_slice-7) → (n : ℕ) → (is_marked c.in_ok-inputs.inputs.items n ≡ true) ↔ IsSomewhere (PortHas c.args.kept.now.groups false) c.args.kept.now.ports n
 inputs_told c = marks_tell c.in_ok-inputs.inputs.items c.as_slice-2.result.now (IsSomewhere (PortHas c.args.kept.now.groups false) c.args.kept.now.ports) c.in_ok-inputs.ensures.marked (inputs_listed_later c)

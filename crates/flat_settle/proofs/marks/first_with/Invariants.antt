@@ -1,5 +1,5 @@
 use Rattle.std.proofs.Common.{◌≡◌, ℕ, ◌<◌, true}
-use Rattle.flat_settle.specs.Tables.{is_marked}
+use Rattle.net_graph.specs.Lists.{is_marked}
 use Rattle.flat_settle.proofs.marks.first_with.Given as goal
 
 abbrev pub invariant-loop-number : goal.invariant-loop-number

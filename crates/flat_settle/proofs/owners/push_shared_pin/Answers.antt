@@ -1,7 +1,9 @@
 use Rattle.std.proofs.Common.{◌≡◌, ◌++◌, ◌∷◌, [], ◌⊎◌, ℕ, List, true, Some, ap, sym, ◌∙◌, subst}
 use Rattle.std.proofs.lemmas.Option.{same_Some}
 use Rattle.net_core.specs.declared.parts.NetId.{NetId}
-use Rattle.flat_settle.specs.Tables.{Appends, SharedPinHas, HasOutput, is_marked}
+use Rattle.flat_settle.specs.Tables.{Appends, SharedPinHas}
+use Rattle.net_core.specs.Drivers.{HasOutput}
+use Rattle.net_graph.specs.Lists.{is_marked}
 use Rattle.flat_settle.proofs.AppendLemmas.{on_ok_as, appends_as, appends_one}
 use Rattle.flat_settle.proofs.owners.push_shared_pin.Goals as goal
 

@@ -1,7 +1,8 @@
 use Rattle.std.proofs.Common.{◌++◌, [], List, length, ap, sym, subst, arith}
 use Rattle.std.specs.List.{flat_map}
 use Rattle.net_core.specs.declared.parts.Group.{Group}
-use Rattle.net_core.specs.WellFormed.{AllDiffer, Each, HasRange, IsIdentifier}
+use Rattle.net_core.specs.WellFormed.{HasRange, IsIdentifier}
+use Rattle.net_graph.specs.Lists.{AllDiffer, Each}
 use Rattle.net_core.proofs.ClockLemmas.{ok_then}
 use Rattle.flat_settle.specs.declared.raw.RawCell.{RawCell}
 use Rattle.flat_settle.specs.Refusals.{group_names, cell_names, flat_order}

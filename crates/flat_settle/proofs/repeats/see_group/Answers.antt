@@ -2,7 +2,8 @@ use Rattle.std.proofs.Common.{ℕ, ◌++◌, ◌∷◌, [], List, map, append_as
 use Rattle.net_core.specs.WellFormed.{bit_names}
 use Rattle.net_core.proofs.ClockLemmas.{ok_then}
 use Rattle.flat_settle.specs.Refusals.{Named, Identifier, BitName, group_names}
-use Rattle.flat_settle.specs.Naming.{IsAmong, AreSeen}
+use Rattle.flat_settle.specs.Naming.{AreSeen}
+use Rattle.net_graph.specs.Lists.{IsIn}
 use Rattle.flat_settle.proofs.RepeatLemmas.{sees_true, sees_false, repeats_first, repeats_shift, match_as}
 use Rattle.flat_settle.proofs.repeats.see_group.Goals as goal
 
@@ -10,7 +11,7 @@ pub returns-then-there : goal.returns-then-there
 returns-then-there c = λ names seen. (
     let among = sees_true c.see_identifier.new.seen names (Identifier c.bytes.result.now) c.in_ok-there.there c.if-there.true (c.in_ok-there.ensures.sees names seen) in
     repeats_first names (group_names c.args.group.now) (Identifier c.args.group.now.name) c.in_ok-copied.field-0 (map BitName (bit_names c.args.group.now)) refl (sym c.in_ok-copied.ensures)
-    (subst (λ (name : List ℕ). IsAmong names (Identifier name)) c.bytes.ensures among) seen.differ)
+    (subst (λ (name : List ℕ). IsIn names (Identifier name)) c.bytes.ensures among) seen.differ)
 
 pub returns : goal.returns
 returns c = ok_then c.see_bits.result _ _ (λ found told names seen. (

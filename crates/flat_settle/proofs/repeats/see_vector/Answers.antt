@@ -5,7 +5,7 @@ use Rattle.std.proofs.lemmas.Option.{slice_get-map}
 use Rattle.net_core.specs.WellFormed.{range_indices, indexed_name}
 use Rattle.flat_settle.specs.Refusals.{Named, BitName}
 use Rattle.flat_settle.specs.Naming.{AreSeen}
-use Rattle.flat_settle.proofs.NameLemmas.{range_width}
+use Rattle.net_core.proofs.NameLemmas.{range_width}
 use Rattle.flat_settle.proofs.RepeatLemmas.{sees_true, sees_false, one_more_taken}
 use Rattle.flat_settle.proofs.repeats.see_vector.Goals as goal
 

@@ -1,14 +1,15 @@
 use Rattle.std.proofs.Common.{◌≡◌, ◌↔◌, ℕ, List, Bool, true, map, filter, IsTrue, ap, sym, ◌∙◌, subst}
 use Rattle.net_core.specs.declared.parts.Cell.{Cell}
 use Rattle.net_core.specs.Netlist.{net_count, parts_of}
-use Rattle.net_core.specs.WellFormed.{IsWellFormed, Each, HasRange}
+use Rattle.net_core.specs.WellFormed.{IsWellFormed, HasRange}
+use Rattle.net_graph.specs.Lists.{Each, is_marked}
 use Rattle.flat_settle.specs.declared.judge.Kept.{Kept}
 use Rattle.flat_settle.specs.declared.raw.RawCell.{RawCell}
 use Rattle.flat_settle.specs.Raw.{flat_cell}
 use Rattle.flat_settle.specs.Driven.{IsDriven, IsClocked, Leaves}
 use Rattle.flat_settle.specs.Refusals.{HasConstantClock, HasNoFault, Settles}
 use Rattle.flat_settle.specs.Judged.{HasMarks, IsJudgedFault, IsJudgedSound, IsFirstClockOf, clocked_parts}
-use Rattle.flat_settle.specs.Tables.{is_marked, stays}
+use Rattle.flat_settle.specs.Tables.{stays}
 use Rattle.flat_settle.proofs.KeepLemmas.{leaves}
 use Rattle.flat_settle.proofs.FormedLemmas.{has_marks, fault_in, sound_in, formed, settles}
 use Rattle.flat_settle.proofs.settled.settle_distinct.Goals as goal

@@ -1,5 +1,5 @@
 use Rattle.std.proofs.Common.{◌↔◌, ℕ, List, length, ap, sym, subst, arith}
-use Rattle.net_core.specs.Netlist.{IsIn}
+use Rattle.net_graph.specs.Lists.{IsIn}
 use Rattle.net_core.proofs.ClockLemmas.{ok_then}
 use Rattle.net_graph.specs.Graph.{Leads}
 use Rattle.flat_settle.specs.Tables.{IsStep, row_of}

@@ -1,7 +1,8 @@
 use Rattle.std.proofs.Common.{◌<◌, [], ◌∷◌, ◌∙◌, List, ap, sym, subst}
 use Rattle.net_core.specs.declared.parts.Group.{Group}
 use Rattle.net_core.specs.Netlist.{net_count}
-use Rattle.net_core.specs.WellFormed.{Each, HasRange}
+use Rattle.net_core.specs.WellFormed.{HasRange}
+use Rattle.net_graph.specs.Lists.{Each}
 use Rattle.flat_settle.specs.declared.raw.Raw.{Raw}
 use Rattle.flat_settle.proofs.SampleLemmas.{sample_unfolded, last_bit}
 use Rattle.flat_settle.proofs.tests.last_name.Goals as goal

@@ -67,7 +67,7 @@ start : (c : In_ok-stored) → IsStartTo c.args.flat.now.cells (length c.args.fl
 start c = subst (λ (cells : List Cell). IsStartTo cells (length cells) c.in_ok-stored.stored) c.cells-3.ensures.value c.in_ok-stored.ensures
 
 size : (c : In_ok-stored) → length c.in_ok-values.values.items ≡ net_count c.args.flat.now.groups + 2
-size c = omega (arith, c.in_ok-values.ensures.size, c.count_nets.ensures, ap net_count c.groups.ensures.value)
+size c = omega (arith, c.in_ok-values.ensures.size, c.net_count.ensures)
 
 pub invariant_of-result : goal.invariant_of-result
 invariant_of-result c =
