@@ -20,8 +20,9 @@ use Rattle.elab_scope.specs.declared.amounts.Count.{Count}
 use Rattle.elab_amounts.specs.Amounts.{count_of}
 use Rattle.elab_unfold.specs.Parts.{IsWithin}
 use Rattle.elab_flat.specs.declared.limits.Above.{Above}
-use Rattle.elab_flat.specs.Above.{IsClockIn, kinds, IsAbove, IsFirstAbove, IsFaultBefore, IsUnsettled, nowhere}
+use Rattle.elab_flat.specs.Above.{IsClockIn, kinds, IsAbove, IsFirstAbove, IsFaultBefore, IsUnsettled}
 use Rattle.elab_flat.proofs.AboveLaws.{for_more, greatest_low}
+use Rattle.ila_base.specs.declared.place.TheConstants.Place.{NOWHERE}
 
 -- the count of a kind is that of a design as far as it is carried
 abbrev pub IsCarried : Design → Count → Type 0
@@ -66,7 +67,7 @@ module _ (d : Design) (top : Module) (c : Count) (known : IsKnown d top c) where
       for_more Has Depth (Cells ∷ Pins ∷ Nets ∷ AllNames ∷ []) (known.deepest.0, depth known.deepest.0 known.deepest.1)
       (λ kind among. (amount kind known.order.0 known.order.1, unfolded kind known.order.0 known.order.1 among known.order.2))
 
-  is_above : (a : Above) (f : NetFault) → HasClock d → IsAbove c a → f ≡ record { refusal = Limit a.kind a.amount; place = nowhere } → IsElabFault d f
+  is_above : (a : Above) (f : NetFault) → HasClock d → IsAbove c a → f ≡ record { refusal = Limit a.kind a.amount; place = NOWHERE } → IsElabFault d f
   unfolding Has
   is_above a f clock high is =
       let (n, counts) = some_count a.kind high.among in

@@ -2,7 +2,6 @@
 use Rattle.std.specs.Prelude.{◌⊎◌, ◌≡◌, ℕ, ◌<◌, ◌≤◌, List, [], ◌∷◌, Option, Some, None}
 use Rattle.ila_base.specs.declared.refusal.LimitKind.{LimitKind}
 use Rattle.ila_base.specs.declared.refusal.LimitKind.TheVariants.{Depth, Cells, Pins, Nets, AllNames}
-use Rattle.ila_base.specs.declared.place.Place.{Place}
 use Rattle.ila_base.specs.declared.refusal.NetRefusal.TheVariants.{TopOrClock, Limit}
 use Rattle.ila_base.specs.declared.fault.NetFault.{NetFault}
 use Rattle.vlog_parse.specs.declared.tree.Dir.TheVariants.{Input}
@@ -16,6 +15,7 @@ use Rattle.flat_settle.specs.declared.raw.Raw.{Raw}
 use Rattle.flat_settle.specs.declared.raw.Unsettled.{Unsettled}
 use Rattle.flat_settle.specs.Refusals.{IsFaultOf}
 use Rattle.elab_flat.specs.declared.limits.Above.{Above}
+use Rattle.ila_base.specs.declared.place.TheConstants.Place.{NOWHERE}
 
 -- a port of this name is a one-bit input
 pub record IsClockIn (m : Module) (clock : List ℕ) : Type 0 where
@@ -39,20 +39,16 @@ abbrev pub IsFirstAbove : Count → Option Above → Type 0
 IsFirstAbove c None = (kind : LimitKind) → In kinds kind → count_of kind c ≤ greatest kind
 IsFirstAbove c (Some a) = IsAbove c a
 
--- no place
-abbrev pub nowhere : Place
-nowhere = record { line = 0; col = 0 }
-
 -- Why a design is refused before it is unfolded: the clock is no one-bit input of the top, or else a count is above its limit.
 abbrev pub IsFaultBefore : Module → List ℕ → Count → Option NetFault → Type 0
 IsFaultBefore top clock c None = IsClockIn top clock × IsFirstAbove c None
 IsFaultBefore top clock c (Some f) =
-    ((¬ IsClockIn top clock) × (f ≡ record { refusal = TopOrClock clock; place = nowhere }))
-    ⊎ (IsClockIn top clock × ((a : Above) × IsAbove c a × (f ≡ record { refusal = Limit a.kind a.amount; place = nowhere })))
+    ((¬ IsClockIn top clock) × (f ≡ record { refusal = TopOrClock clock; place = NOWHERE }))
+    ⊎ (IsClockIn top clock × ((a : Above) × IsAbove c a × (f ≡ record { refusal = Limit a.kind a.amount; place = NOWHERE })))
 
 -- the parts can't be settled for this
 pub record IsUnsettled (raw : Raw) (f : NetFault) : Type 0 where
   pub why : Unsettled
   pub fault : IsFaultOf raw why
   pub refusal : refusal_of why ≡ Some f.refusal
-  pub no_place : f.place ≡ nowhere
+  pub no_place : f.place ≡ NOWHERE

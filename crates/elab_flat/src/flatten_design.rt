@@ -12,10 +12,11 @@ ghost use Rattle.flat_settle.specs.Refusals.{Settles, IsFaultOf};
 ghost use Rattle.elab_design.specs.Limits.{IsElabFault};
 ghost use Rattle.elab_design.specs.Elaborates.{Elaborates};
 ghost use Rattle.elab_flat.specs.declared.limits.Above.{Above as AboveOf};
-ghost use Rattle.elab_flat.specs.Above.{IsClockIn, IsAbove, IsFirstAbove, IsFaultBefore, IsUnsettled, nowhere};
+ghost use Rattle.elab_flat.specs.Above.{IsClockIn, IsAbove, IsFirstAbove, IsFaultBefore, IsUnsettled};
 ghost use Rattle.elab_scope.specs.Counting.{count_at};
 ghost use Rattle.elab_scope.specs.Nets.{AreNets};
 ghost use Rattle.flat_settle.specs.declared.raw.Raw.{Raw as RawOf};
+ghost use Rattle.ila_base.specs.declared.place.TheConstants.Place.{NOWHERE};
 
 use crate::clock::is_clock;
 use crate::limits::first_above;
@@ -46,7 +47,7 @@ fn top_number(alloc: Global, tree: &Tree, name: &[u8]) -> Result<usize, NoMemory
 
 // A refusal that has no place.
 fn fault(refusal: NetRefusal) -> NetFault
-    ensures { result ≡ record { refusal = refusal; place = nowhere } }
+    ensures { result ≡ record { refusal = refusal; place = NOWHERE } }
 {
     NetFault {
         refusal,
@@ -62,7 +63,7 @@ fn clock_fault(
     clock: &[u8],
 ) -> Result<Option<NetFault>, NoMemory>
     requires { AreNets top.now nets.now }
-    ensures { IfOk result (λ found. MatchOption found (IsClockIn top.now clock.now) (λ f. (¬ IsClockIn top.now clock.now) × (f ≡ record { refusal = refusals.TopOrClock clock.now; place = nowhere }))) }
+    ensures { IfOk result (λ found. MatchOption found (IsClockIn top.now clock.now) (λ f. (¬ IsClockIn top.now clock.now) × (f ≡ record { refusal = refusals.TopOrClock clock.now; place = NOWHERE }))) }
 {
     if is_clock(alloc, top, nets, clock)? {
         return Ok(None);
@@ -73,7 +74,7 @@ fn clock_fault(
 
 // Why a design is refused for its size.
 fn limit_fault(count: Count) -> Option<NetFault>
-    ensures { MatchOption result (IsFirstAbove count None) (λ f. (a : AboveOf) × IsAbove count a × (f ≡ record { refusal = refusals.Limit a.kind a.amount; place = nowhere })) }
+    ensures { MatchOption result (IsFirstAbove count None) (λ f. (a : AboveOf) × IsAbove count a × (f ≡ record { refusal = refusals.Limit a.kind a.amount; place = NOWHERE })) }
 {
     match first_above(count) {
         None => None,

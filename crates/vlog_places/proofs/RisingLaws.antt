@@ -8,13 +8,13 @@ use Rattle.std.proofs.lemmas.List.Sums.{sum_by_push}
 use Rattle.ila_base.specs.declared.place.Place.{Place}
 use Rattle.ila_base.specs.declared.fault.NetFault.{NetFault}
 use Rattle.vlog_lex.specs.declared.token.Token.{Token}
-use Rattle.ila_base.specs.Bytes.{is_newline}
-use Rattle.ila_base.specs.Bytes.{is_in_line}
-use Rattle.ila_base.specs.Places.{place_behind}
+use Rattle.ila_base.specs.Bytes.{is_newline, is_in_line}
 use Rattle.vlog_lex.specs.Cutting.{IsReading, too_long, cut as cut_into, Cuts, ends, skips, takes, refuses, token_behind, is_mark_of, parenthesis_next, settled_token, settled, IsWithin}
+use Rattle.ila_base.specs.Places.{place_behind}
 use Rattle.vlog_lex.proofs.TokenLaws.{cut_within}
 use Rattle.vlog_parse.specs.Lexemes.{lexemes}
 use Rattle.vlog_parse.specs.Items.{place_of}
+use Rattle.ila_base.specs.declared.place.TheConstants.Place.{NOWHERE}
 
 -- the place stands before the other one in a text
 abbrev pub IsBefore : Place → Place → Type 0
@@ -102,14 +102,10 @@ lexeme_places : (text : List ℕ) (tokens : List Token) → map place_of (lexeme
 lexeme_places text [] = refl
 lexeme_places text (token ∷ tokens) = ap (λ ps. token_place token ∷ ps) (lexeme_places text tokens)
 
--- before the first byte
-abbrev pub nowhere : Place
-nowhere = record { line = 0; col = 0 }
-
 -- the places of a text's tokens rise
-pub places_rise : (text : List ℕ) (tokens : List Token) → IsReading text tokens None → RiseBehind nowhere (map place_of (lexemes text tokens))
+pub places_rise : (text : List ℕ) (tokens : List Token) → IsReading text tokens None → RiseBehind NOWHERE (map place_of (lexemes text tokens))
 places_rise text tokens (too_long long none fault) = absurd cc
 places_rise text tokens (cut_into pieces short cuts is) =
-    let rise : RiseBehind nowhere (map token_place pieces) = cut_rise (length text) cuts (cut_within cuts (length text) (omega arith)) nowhere (inl (omega arith)) in
+    let rise : RiseBehind NOWHERE (map token_place pieces) = cut_rise (length text) cuts (cut_within cuts (length text) (omega arith)) NOWHERE (inl (omega arith)) in
     let places : map place_of (lexemes text tokens) ≡ map token_place pieces = lexeme_places text tokens ∙ ap (map token_place) is ∙ settled_places pieces in
-    subst (RiseBehind nowhere) (sym places) rise
+    subst (RiseBehind NOWHERE) (sym places) rise

@@ -18,10 +18,11 @@ use Rattle.vlog_parse.specs.Lexemes.{lexemes}
 use Rattle.vlog_parse.specs.Parsing.{IsReadAs}
 use Rattle.vlog_check.specs.Scope.{leaf_place}
 use Rattle.vlog_check.specs.Places.{item_place, conn_expr, expr_at, Site, AtModule, AtItem, AtLeaf, StandsAt, module_name, item_name, leaf, HasOwnPlaces}
-use Rattle.vlog_places.proofs.RisingLaws.{IsBefore, not_before, RiseBehind, rise_before, nowhere, places_rise}
+use Rattle.vlog_places.proofs.RisingLaws.{IsBefore, not_before, RiseBehind, rise_before, places_rise}
 use Rattle.vlog_places.proofs.Standing.{rise_in, Each}
 use Rattle.vlog_places.proofs.ItemPlaces.{conn_slots, slots, slot_places, IsGoodSlot, own_place, item_places, IsGoodItem}
 use Rattle.vlog_places.proofs.DesignPlaces.{module_places, IsGoodModule, tree_places, IsGoodTree, design_tells}
+use Rattle.ila_base.specs.declared.place.TheConstants.Place.{NOWHERE}
 
 -- Lists made of numbered parts
 
@@ -191,9 +192,9 @@ some_leaf tree good k i e m item expr at there is =
 pub own_places : (text : List ℕ) (tokens : List Token) (tree : Tree) → IsReading text tokens None → IsReadAs text tokens tree → HasOwnPlaces tree
 own_places text tokens tree reading read =
     let told = design_tells.told (lexemes text tokens) tree read.design in
-    let rise : RiseBehind nowhere (tree_places tree) = rise_in nowhere told.1 (places_rise text tokens reading) in
-    let sites : RiseBehind nowhere (map placed_at (tree_sites tree)) = subst (RiseBehind nowhere) (sym (tree_sites_places tree)) rise in
+    let rise : RiseBehind NOWHERE (tree_places tree) = rise_in NOWHERE told.1 (places_rise text tokens reading) in
+    let sites : RiseBehind NOWHERE (map placed_at (tree_sites tree)) = subst (RiseBehind NOWHERE) (sym (tree_sites_places tree)) rise in
     record {
-      own = λ s t p first second. one_site (tree_sites tree) nowhere sites s t p (stands_has tree s p first) (stands_has tree t p second);
+      own = λ s t p first second. one_site (tree_sites tree) NOWHERE sites s t p (stands_has tree s p first) (stands_has tree t p second);
       some = some_leaf tree told.0;
     }
