@@ -14,7 +14,6 @@ use Rattle.vlog_check.specs.Scope.{module_number, cell_of}
 use Rattle.vlog_check.specs.FindingNames.{FindsModule, FindsSecondPort, FindsNoDirection, FindsSecond, FindsOutside}
 use Rattle.vlog_check.specs.FindingWidths.{FindsInAssign, FindsInGate}
 use Rattle.vlog_check.specs.FindingPins.{FindsInInst}
-use Rattle.ila_base.specs.declared.place.TheConstants.Place.{NOWHERE}
 
 -- Findings
 
@@ -74,7 +73,7 @@ pub record Design : Type 0 where
 -- Refusals
 
 abbrev pub nowhere : NetFault → Type 0
-nowhere fault = fault.place ≡ NOWHERE
+nowhere fault = fault.place ≡ record { line = 0; col = 0 }
 
 -- of the top and the modules below it the first one that contains itself, by its number and its name
 pub record IsFirstRecursive (tree : Tree) (top : ℕ) (n : ℕ) (name : List ℕ) : Type 0 where
