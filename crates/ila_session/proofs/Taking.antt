@@ -1,14 +1,15 @@
 -- The rows that were taken, after each answer of a reader.
-use Rattle.std.proofs.Common.{◌≡◌, ℕ, Bool, true, false, List, [], ◌∷◌, ◌++◌, length, Option, Some, None, Result, Ok, Err, inl, inr, refl, sym, ◌∙◌, ap, subst}
+use Rattle.std.proofs.Common.{◌≡◌, ℕ, Bool, true, false, List, [], ◌∷◌, ◌++◌, length, Option, Some, None, Result, Ok, Err, inl, inr, refl, sym, ◌∙◌, ap, subst, length-append}
 use Rattle.std.specs.Prelude.{◌⊎◌}
 use Rattle.std.specs.Io.KnownBytes.{Keeps, IsAtEnd}
 use Rattle.ila_base.specs.declared.refusal.StimRefusal.{StimRefusal}
 use Rattle.net_core.specs.Netlist.{Netlist}
 use Rattle.net_core.specs.Run.{StandsFor}
 use Rattle.stim_read.specs.Reading.{Reading, rest, TakesRow, Refuses}
-use Rattle.stim_read.specs.Streams.{rest_of, ReadsAhead}
+use Rattle.stim_read.specs.Streams.{rest_of, ReadsAhead, UsesEnds}
 use Rattle.stim_read.specs.RowLaws.{HasTaken, taken_more}
-use Rattle.ila_session.specs.Shown.{TakesRows, RefusesBehind}
+use Rattle.stim_read.specs.ReadLaws.{IsReadFor, read_row}
+use Rattle.ila_session.specs.Shown.{TakesRows, ReadsRows, RefusesBehind}
 
 -- before the first row
 pub takes_none : (before : Reading) (left : Option (List ℕ)) → TakesRows before left [] before left
@@ -19,6 +20,13 @@ pub takes_more : (before old new : Reading) (left mid later : Option (List ℕ))
     → TakesRow old new (rest old mid) (rest new later) → new.fields ≡ old.fields → length new.bits ≡ length old.bits → TakesRows before left (rows ++ row ∷ []) new later
 takes_more before old new left mid later rows row is taken takes fields size inputs text has =
     subst (λ (r : List Bool). HasTaken inputs text (rows ++ r ∷ []) new later) (sym is) (taken_more inputs text rows old new mid later (taken inputs text has) takes fields size)
+
+-- one row more, which needed all that was read
+pub reads_more : (before old new : Reading) (left mid later : Option (List ℕ)) (rows : List (List Bool)) (row : List Bool) → ReadsRows before left rows old mid
+    → ReadsAhead old.most old.unused mid later → UsesEnds 1 old.unused mid new.unused later → ReadsRows before left (rows ++ row ∷ []) new later
+reads_more before old new left mid later rows row reads ahead uses text read =
+    subst (λ n. IsReadFor text n new.unused later) (sym (length-append rows (row ∷ [])))
+    (read_row text old.unused new.unused (length rows) old.most mid later (reads text read) ahead uses)
 
 -- the same rows, where the same bytes are to come
 keeps_told : (old now : Option (List ℕ)) (bytes : List ℕ) → Keeps old now → old ≡ Some bytes → now ≡ Some bytes

@@ -12,6 +12,7 @@ use Rattle.stim_read.specs.declared.inputs.DataInput.{DataInput}
 use Rattle.stim_read.specs.Reading.{Reading, rest, Refuses}
 use Rattle.stim_read.specs.Streams.{Unbroken, ReadsAhead}
 use Rattle.stim_read.specs.RowLaws.{HasTaken}
+use Rattle.stim_read.specs.ReadLaws.{IsReadFor}
 use Rattle.ila_session.specs.declared.fault.SessionFault.{SessionFault}
 use Rattle.ila_session.specs.declared.fault.SessionFault.TheVariants.{Stimulus, ReadFault, WriteFault, NoMemory}
 use Rattle.ila_session.specs.RunText.{RunText, text_of, AppendsClocksFront}
@@ -26,6 +27,10 @@ pub record ShowedRows (net : Netlist) (before : Reading) (left : Option (List �
     (after : Reading) (later : Option (List ℕ)) : Type 0 where
   pub taken : TakesRows before left rows after later
   pub stands : StandsFor net bit content rows
+
+-- where before no more of a text was read than its header needs, no more was read now than the last of these rows needs
+abbrev pub ReadsRows : Reading → Option (List ℕ) → List (List Bool) → Reading → Option (List ℕ) → Type 0
+ReadsRows before left rows after later = (text : List ℕ) → IsReadFor text 0 before.unused left → IsReadFor text (length rows) after.unused later
 
 -- of the next line only a part was read: what was read and not used yet holds no newline, and the end wasn't met
 abbrev pub ReadsOnlyPart : Reading → Type 0
@@ -97,4 +102,5 @@ Ends text net before after (Err ReadFault) = (rows : List (List Bool)) × Rose b
     × Showed net before rows after × Shows text net rows before.written after.written
 Ends text net before after (Err WriteFault) = (rows : List (List Bool)) × Rose before.write_faults after.write_faults
     × Showed net before rows after × ShowsFront text net rows before.written after.written
+    × ReadsRows before.reading before.left rows after.reading after.left
 Ends text net before after (Err NoMemory) = ⊥
