@@ -1,5 +1,5 @@
 -- What stands after the rows of a stimulus were simulated one after the other, and a text of the run was written.
-use Rattle.std.specs.Prelude.{◌≡◌, ◌⊎◌, ℕ, Bool, false, List, [], length, Option, Some, Result, Ok, Err}
+use Rattle.std.specs.Prelude.{◌≡◌, ◌⊎◌, ℕ, Bool, false, List, [], length, Option, Some, None, Result, Ok, Err}
 use Rattle.std.specs.Io.KnownBytes.{Appends, IsAtEnd}
 use Rattle.ila_base.specs.Faults.{Rose}
 use Rattle.ila_base.specs.declared.outside.Sink as sinks
@@ -45,9 +45,10 @@ pub record RefusesBehind (before : Reading) (left : Option (List ℕ)) (rows : L
   pub refuses : Refuses reading (rest reading later) why
   pub ahead : ReadsAhead reading.most reading.unused later after
 
--- the reader had refused before, and no row was taken, or it refuses the line behind the rows now
+-- the reader had refused before, and no row was taken, or it had not, and refuses the line behind the rows now
 abbrev pub IsRefusedAt : Reading → Option (List ℕ) → List (List Bool) → StimRefusal → Option (List ℕ) → Type 0
-IsRefusedAt before left rows why after = ((before.refused ≡ Some why) × (rows ≡ [])) ⊎ RefusesBehind before left rows why after
+IsRefusedAt before left rows why after = ((before.refused ≡ Some why) × (rows ≡ []))
+    ⊎ ((before.refused ≡ None) × RefusesBehind before left rows why after)
 
 -- the text of the run over the rows was put behind what was written
 abbrev pub Shows : RunText ℕ → Netlist → List (List Bool) → Option (List ℕ) → Option (List ℕ) → Type 0

@@ -1,7 +1,7 @@
 -- What a reader took of its source since a call began.
 use Rattle.std.proofs.Common.{◌≡◌, ℕ, ◌+◌, ◌-◌, ◌≤◌, ◌⊎◌, inl, inr, List, [], ◌∷◌, ◌++◌, length, drop, Option, Some, None, refl, sym, ◌∙◌, ap, subst, arith, append_assoc, append-nil}
 use Rattle.std.specs.Prelude.{sum_by}
-use Rattle.std.specs.Io.KnownBytes.{Keeps, Consumes}
+use Rattle.std.specs.Io.KnownBytes.{Consumes}
 use Rattle.std.proofs.lemmas.List.{length-take}
 use Rattle.stim_read.specs.declared.line_reader.TheConstants.{PIECE}
 use Rattle.stim_read.specs.declared.inputs.DataInput.{DataInput}
@@ -65,17 +65,6 @@ pub newline_used : (most : ℕ) (line ahead grown behind now : List ℕ) → Fin
 newline_used most line ahead grown behind now (piece, clean, cut, is) same =
     let one : line_ends (newline ∷ []) ≡ 1 = refl in
     omega (arith, one, clean_ends piece clean, ap line_ends cut, ends_append piece (newline ∷ behind), ends_append (newline ∷ []) behind, ap line_ends same)
-
--- Nothing was read of a source that was not asked.
-pub reads_none : (most : ℕ) (unused : List ℕ) (left : Option (List ℕ)) → ReadsAhead most unused left left
-reads_none most unused None = tt
-reads_none most unused (Some bytes) = inl refl
-
--- A failed read takes nothing.
-pub consumes_none : (old new : Option (List ℕ)) (piece : List ℕ) → Keeps old new → piece ≡ [] → Consumes old new piece
-consumes_none None new piece kept none = tt
-consumes_none (Some bytes) None piece kept none = absurd kept
-consumes_none (Some bytes) (Some left) piece kept none = sym kept ∙ ap (λ xs. xs ++ left) (sym none)
 
 -- A line of a stimulus has room for each header and each row.
 pub room_names : (inputs : List DataInput) (room : ℕ) → room ≡ longest_line inputs → sum_by (λ input. length input.name + 1) inputs ≤ room
