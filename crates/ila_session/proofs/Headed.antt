@@ -45,8 +45,8 @@ ends_behind head clock net before after mid faults (Err (Stimulus why)) first la
     (rows, refused, stands, shows_behind head clock net rows before.written mid after.written first shown)
 ends_behind head clock net before after mid faults (Err ReadFault) first later (rows, rose, part, showed, shown) =
     (rows, rose, part, showed, shows_behind head clock net rows before.written mid after.written first shown)
-ends_behind head clock net before after mid faults (Err WriteFault) first later (rows, rose, showed, shown) =
-    (rows, omega (arith, rose, later), showed, shows_front_behind head clock net rows before.written mid after.written first shown)
+ends_behind head clock net before after mid faults (Err WriteFault) first later (rows, rose, showed, shown, read) =
+    (rows, omega (arith, rose, later), showed, shows_front_behind head clock net rows before.written mid after.written first shown, read)
 ends_behind head clock net before after mid faults (Err NoMemory) first later ends = absurd ends
 
 -- A session over the lines of the outputs, as one over the outputs text.

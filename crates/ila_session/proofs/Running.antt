@@ -3,7 +3,7 @@ use Rattle.std.proofs.Common.{◌≡◌, ℕ, zero, suc, ◌+◌, ◌≤◌, Boo
 use Rattle.std.specs.Prelude.{slice_get}
 use Rattle.std.specs.List.{flat_map, range_with_len}
 use Rattle.std.specs.Io.KnownBytes.{Appends}
-use Rattle.std.proofs.KnownBytes.{Appends-trans, Appends-nil}
+use Rattle.std.proofs.KnownBytes.{Appends-trans}
 use Rattle.std.proofs.Math.Seq.{take-append-add}
 use Rattle.std.proofs.lemmas.Grind.{flat_map-append}
 use Rattle.ila_base.specs.Faults.{AppendsFront}
@@ -84,7 +84,3 @@ pub shows_front : (text : RunText ℕ) (net : Netlist) (rows : List (List Bool))
 shows_front text net rows row old mid new before more h run =
     clocks_front (text_of text h.bit) (length rows) (length (rows ++ row ∷ [])) (text.clock h.bit (length rows)) (omega (arith, length-append rows (row ∷ []))) (text_more text h rows row)
     old mid new (before h (cut_run net rows (row ∷ []) h run)) (more h run)
-
--- before the first row nothing is shown
-pub shows_none : (clock : (ℕ → ℕ → Bool) → ℕ → List ℕ) (net : Netlist) (old : Option (List ℕ)) → Shows (record { head = []; clock = clock }) net [] old old
-shows_none clock net old h run = Appends-nil old

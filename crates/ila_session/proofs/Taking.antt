@@ -1,24 +1,30 @@
 -- The rows that were taken, after each answer of a reader.
-use Rattle.std.proofs.Common.{◌≡◌, ℕ, Bool, true, false, List, [], ◌∷◌, ◌++◌, length, Option, Some, None, Result, Ok, Err, inl, inr, refl, sym, ◌∙◌, ap, subst}
+use Rattle.std.proofs.Common.{◌≡◌, ℕ, Bool, true, false, List, [], ◌∷◌, ◌++◌, length, Option, Some, None, Result, Ok, Err, inl, inr, refl, sym, ◌∙◌, ap, subst, length-append}
 use Rattle.std.specs.Prelude.{◌⊎◌}
 use Rattle.std.specs.Io.KnownBytes.{Keeps, IsAtEnd}
 use Rattle.ila_base.specs.declared.refusal.StimRefusal.{StimRefusal}
 use Rattle.net_core.specs.Netlist.{Netlist}
 use Rattle.net_core.specs.Run.{StandsFor}
+use Rattle.stim_read.specs.declared.faults.StimFault.{StimFault}
+use Rattle.stim_read.specs.declared.faults.StimFault.TheVariants as stim
 use Rattle.stim_read.specs.Reading.{Reading, rest, TakesRow, Refuses}
-use Rattle.stim_read.specs.Streams.{rest_of, ReadsAhead}
+use Rattle.stim_read.specs.Streams.{rest_of, ReadsAhead, UsesEnds}
 use Rattle.stim_read.specs.RowLaws.{HasTaken, taken_more}
-use Rattle.ila_session.specs.Shown.{TakesRows, RefusesBehind}
-
--- before the first row
-pub takes_none : (before : Reading) (left : Option (List ℕ)) → TakesRows before left [] before left
-takes_none before left inputs text has = has
+use Rattle.stim_read.specs.ReadLaws.{IsReadFor, read_row}
+use Rattle.ila_session.specs.Shown.{TakesRows, ReadsRows, IsRefusedAt}
 
 -- one row more
 pub takes_more : (before old new : Reading) (left mid later : Option (List ℕ)) (rows : List (List Bool)) (row : List Bool) → row ≡ new.bits → TakesRows before left rows old mid
     → TakesRow old new (rest old mid) (rest new later) → new.fields ≡ old.fields → length new.bits ≡ length old.bits → TakesRows before left (rows ++ row ∷ []) new later
 takes_more before old new left mid later rows row is taken takes fields size inputs text has =
     subst (λ (r : List Bool). HasTaken inputs text (rows ++ r ∷ []) new later) (sym is) (taken_more inputs text rows old new mid later (taken inputs text has) takes fields size)
+
+-- one row more, which needed all that was read
+pub reads_more : (before old new : Reading) (left mid later : Option (List ℕ)) (rows : List (List Bool)) (row : List Bool) → ReadsRows before left rows old mid
+    → ReadsAhead old.most old.unused mid later → UsesEnds 1 old.unused mid new.unused later → ReadsRows before left (rows ++ row ∷ []) new later
+reads_more before old new left mid later rows row reads ahead uses text read =
+    subst (λ n. IsReadFor text n new.unused later) (sym (length-append rows (row ∷ [])))
+    (read_row text old.unused new.unused (length rows) old.most mid later (reads text read) ahead uses)
 
 -- the same rows, where the same bytes are to come
 keeps_told : (old now : Option (List ℕ)) (bytes : List ℕ) → Keeps old now → old ≡ Some bytes → now ≡ Some bytes
@@ -64,12 +70,14 @@ takes_end before old new left mid later rows taken over ended unused fields bits
 
 -- a line is refused behind the rows, unless it was before
 pub refuses_behind : (before old : Reading) (left mid : Option (List ℕ)) (rows : List (List Bool)) (why : StimRefusal) → TakesRows before left rows old mid
-    → (old.refused ≡ Some why → (before.refused ≡ Some why) × (rows ≡ [])) → (old.refused ≡ Some why) ⊎ Refuses old (rest old mid) why
-    → (after : Option (List ℕ)) → ReadsAhead old.most old.unused mid after
-    → ((before.refused ≡ Some why) × (rows ≡ [])) ⊎ RefusesBehind before left rows why after
-refuses_behind before old left mid rows why taken earlier (inl refused) after ahead = inl (earlier refused)
-refuses_behind before old left mid rows why taken earlier (inr refuses) after ahead =
-    inr (record { reading = old; later = mid; taken = taken; refuses = refuses; ahead = ahead })
+    → (old.refused ≡ Some why → before.refused ≡ Some why) → ((other : StimRefusal) → before.refused ≡ Some other → (other ≡ why) × (rows ≡ []))
+    → (old.refused ≡ Some why) ⊎ Refuses old (rest old mid) why → (after : Option (List ℕ)) → ReadsAhead old.most old.unused mid after → IsRefusedAt before left rows why after
+refuses_behind before old left mid rows why taken earlier again either after ahead = by before.refused refl either
+  where
+    by : (o : Option StimRefusal) → before.refused ≡ o → (old.refused ≡ Some why) ⊎ Refuses old (rest old mid) why → IsRefusedAt before left rows why after
+    by (Some other) is either = inl (is ∙ ap Some (again other is).0, (again other is).1)
+    by None is (inl refused) = absurd (let e : None ≡ Some why = sym is ∙ earlier refused in cc e)
+    by None is (inr refuses) = inr (is, record { reading = old; later = mid; taken = taken; refuses = refuses; ahead = ahead })
 
 pub none_some : {X : Type 0} (o : Option X) (x : X) → o ≡ None → o ≡ Some x → ⊥
 none_some o x none some = cc
@@ -90,5 +98,5 @@ ok_err a e is = cc
 pub false_true : {E : Type 0} (b : Bool) → b ≡ false → ◌≡◌ {A = Result Bool E} (Ok b) (Ok true) → ⊥
 false_true b wrong is = cc
 
-pub counts_of : {E : Type 0} (a b : ℕ) → ◌≡◌ {A = Result ℕ E} (Ok a) (Ok b) → b ≡ a
-counts_of a b is = cc
+pub refused_same : {A : Type 0} (given : StimFault) (other why : StimRefusal) → ◌≡◌ {A = Result A StimFault} (Err given) (Err (stim.Refused other)) → given ≡ stim.Refused why → other ≡ why
+refused_same given other why first second = cc

@@ -1,5 +1,5 @@
 -- What stands after the rows of a stimulus were simulated one after the other, and a text of the run was written.
-use Rattle.std.specs.Prelude.{◌≡◌, ◌⊎◌, ℕ, Bool, false, List, [], length, Option, Some, Result, Ok, Err}
+use Rattle.std.specs.Prelude.{◌≡◌, ◌⊎◌, ℕ, Bool, false, List, [], length, Option, Some, None, Result, Ok, Err}
 use Rattle.std.specs.Io.KnownBytes.{Appends, IsAtEnd}
 use Rattle.ila_base.specs.Faults.{Rose}
 use Rattle.ila_base.specs.declared.outside.Sink as sinks
@@ -12,6 +12,7 @@ use Rattle.stim_read.specs.declared.inputs.DataInput.{DataInput}
 use Rattle.stim_read.specs.Reading.{Reading, rest, Refuses}
 use Rattle.stim_read.specs.Streams.{Unbroken, ReadsAhead}
 use Rattle.stim_read.specs.RowLaws.{HasTaken}
+use Rattle.stim_read.specs.ReadLaws.{IsReadFor}
 use Rattle.ila_session.specs.declared.fault.SessionFault.{SessionFault}
 use Rattle.ila_session.specs.declared.fault.SessionFault.TheVariants.{Stimulus, ReadFault, WriteFault, NoMemory}
 use Rattle.ila_session.specs.RunText.{RunText, text_of, AppendsClocksFront}
@@ -27,6 +28,10 @@ pub record ShowedRows (net : Netlist) (before : Reading) (left : Option (List �
   pub taken : TakesRows before left rows after later
   pub stands : StandsFor net bit content rows
 
+-- where before no more of a text was read than its header needs, no more was read now than the last of these rows needs
+abbrev pub ReadsRows : Reading → Option (List ℕ) → List (List Bool) → Reading → Option (List ℕ) → Type 0
+ReadsRows before left rows after later = (text : List ℕ) → IsReadFor text 0 before.unused left → IsReadFor text (length rows) after.unused later
+
 -- of the next line only a part was read: what was read and not used yet holds no newline, and the end wasn't met
 abbrev pub ReadsOnlyPart : Reading → Type 0
 ReadsOnlyPart reading = Unbroken reading.unused × (reading.ended ≡ false)
@@ -40,9 +45,10 @@ pub record RefusesBehind (before : Reading) (left : Option (List ℕ)) (rows : L
   pub refuses : Refuses reading (rest reading later) why
   pub ahead : ReadsAhead reading.most reading.unused later after
 
--- the reader had refused before, and no row was taken, or it refuses the line behind the rows now
+-- the reader had refused before, and no row was taken, or it had not, and refuses the line behind the rows now
 abbrev pub IsRefusedAt : Reading → Option (List ℕ) → List (List Bool) → StimRefusal → Option (List ℕ) → Type 0
-IsRefusedAt before left rows why after = ((before.refused ≡ Some why) × (rows ≡ [])) ⊎ RefusesBehind before left rows why after
+IsRefusedAt before left rows why after = ((before.refused ≡ Some why) × (rows ≡ []))
+    ⊎ ((before.refused ≡ None) × RefusesBehind before left rows why after)
 
 -- the text of the run over the rows was put behind what was written
 abbrev pub Shows : RunText ℕ → Netlist → List (List Bool) → Option (List ℕ) → Option (List ℕ) → Type 0
@@ -97,4 +103,5 @@ Ends text net before after (Err ReadFault) = (rows : List (List Bool)) × Rose b
     × Showed net before rows after × Shows text net rows before.written after.written
 Ends text net before after (Err WriteFault) = (rows : List (List Bool)) × Rose before.write_faults after.write_faults
     × Showed net before rows after × ShowsFront text net rows before.written after.written
+    × ReadsRows before.reading before.left rows after.reading after.left
 Ends text net before after (Err NoMemory) = ⊥

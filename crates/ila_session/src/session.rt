@@ -7,7 +7,7 @@ ghost use Rattle.net_core.specs.Run.{StandsFor, SameBits};
 ghost use Rattle.stim_read.specs.Reading.{rest};
 ghost use Rattle.stim_read.specs.Streams.{IsDrained};
 ghost use Rattle.ila_session.specs.declared.fault.SessionFault.TheVariants as fault;
-ghost use Rattle.ila_session.specs.Shown.{session_of, ShowedRows, ReadsOnlyPart, IsRefusedAt, ShowsRun, ShowsRunFront, Ends};
+ghost use Rattle.ila_session.specs.Shown.{session_of, ShowedRows, ReadsRows, ReadsOnlyPart, IsRefusedAt, ShowsRun, ShowsRunFront, Ends};
 
 use crate::clock_text::ClockText;
 use crate::fault::SessionFault;
@@ -155,7 +155,8 @@ pub fn show<M: Machine, S: Source, K: Sink>(
         × Rose (K.faults trace.old) (K.faults trace.new)
         × ShowedRows flat.now stim.old (S.left source.old) rows (M.bit machine.new)
         (M.content machine.new) stim.new (S.left source.new)
-        × ShowsRunFront flat.now rows (K.written trace.old) (K.written trace.new) }
+        × ShowsRunFront flat.now rows (K.written trace.old) (K.written trace.new)
+        × ReadsRows stim.old (S.left source.old) rows stim.new (S.left source.new) }
     ensures again { (why : StimRefusal) → stim.old.refused ≡ Some why
         → (machine.new ≡ machine.old) × (stim.new ≡ stim.old) × (source.new ≡ source.old)
         × (result ≢ Err fault.NoMemory → result ≢ Err fault.WriteFault

@@ -1,12 +1,14 @@
 -- What a reader took of its source since a call began.
-use Rattle.std.proofs.Common.{◌≡◌, ℕ, ◌+◌, ◌-◌, ◌≤◌, ◌⊎◌, inl, inr, List, [], ◌++◌, length, drop, Option, Some, None, refl, sym, ◌∙◌, ap, subst, arith, append_assoc, append-nil}
+use Rattle.std.proofs.Common.{◌≡◌, ℕ, ◌+◌, ◌-◌, ◌≤◌, ◌⊎◌, inl, inr, List, [], ◌∷◌, ◌++◌, length, drop, Option, Some, None, refl, sym, ◌∙◌, ap, subst, arith, append_assoc, append-nil}
 use Rattle.std.specs.Prelude.{sum_by}
-use Rattle.std.specs.Io.KnownBytes.{Keeps, Consumes}
+use Rattle.std.specs.Io.KnownBytes.{Consumes}
 use Rattle.std.proofs.lemmas.List.{length-take}
 use Rattle.stim_read.specs.declared.line_reader.TheConstants.{PIECE}
 use Rattle.stim_read.specs.declared.inputs.DataInput.{DataInput}
 use Rattle.stim_read.specs.Stimulus.{longest_line, digits_of}
-use Rattle.stim_read.specs.Streams.{Unbroken, between, ReadsAhead}
+use Rattle.stim_read.specs.Streams.{newline, Unbroken, between, Finds, ReadsAhead, line_ends, UsesEnds}
+use Rattle.stim_read.specs.declared.line_reader.Found.TheVariants.{Newline}
+use Rattle.stim_read.specs.ReadLaws.{clean_ends, ends_append}
 
 -- Nothing was read, or the line grew by what was, but for the last piece, which is ahead.
 abbrev pub HasRead : List ℕ → List ℕ → List ℕ → Option (List ℕ) → Option (List ℕ) → Type 0
@@ -48,16 +50,21 @@ reads_ahead unused line buffer at end most limit size (Some bytes) (Some left) (
   one = omega (arith, whole, within, ordered, length-take (end - at) (drop at buffer));
 })
 
--- Nothing was read of a source that was not asked.
-pub reads_none : (most : ℕ) (unused : List ℕ) (left : Option (List ℕ)) → ReadsAhead most unused left left
-reads_none most unused None = tt
-reads_none most unused (Some bytes) = inl refl
+-- What was read and isn't ahead is the line, which has no line end.
+pub ends_used : (count : ℕ) (unused line ahead behind : List ℕ) (all left : Option (List ℕ)) → HasRead unused line ahead all left → Unbroken line
+    → line_ends ahead ≤ count + line_ends behind → UsesEnds count unused all behind left
+ends_used count unused line ahead behind None left has clean few = tt
+ends_used count unused line ahead behind (Some bytes) None has clean few = tt
+ends_used count unused line ahead behind (Some bytes) (Some left) (inl (none, same)) clean few =
+    omega (arith, few, clean_ends line clean, ends_append line ahead, ap line_ends same, ap line_ends none)
+ends_used count unused line ahead behind (Some bytes) (Some left) (inr (front, is, cut)) clean few =
+    omega (arith, few, clean_ends line clean, ap line_ends is, ends_append unused front, ap line_ends cut, ends_append front (ahead ++ left), ends_append ahead left)
 
--- A failed read takes nothing.
-pub consumes_none : (old new : Option (List ℕ)) (piece : List ℕ) → Keeps old new → piece ≡ [] → Consumes old new piece
-consumes_none None new piece kept none = tt
-consumes_none (Some bytes) None piece kept none = absurd kept
-consumes_none (Some bytes) (Some left) piece kept none = sym kept ∙ ap (λ xs. xs ++ left) (sym none)
+-- A line that was found has one line end.
+pub newline_used : (most : ℕ) (line ahead grown behind now : List ℕ) → Finds Newline most line ahead grown behind → now ≡ behind → line_ends ahead ≤ 1 + line_ends now
+newline_used most line ahead grown behind now (piece, clean, cut, is) same =
+    let one : line_ends (newline ∷ []) ≡ 1 = refl in
+    omega (arith, one, clean_ends piece clean, ap line_ends cut, ends_append piece (newline ∷ behind), ends_append (newline ∷ []) behind, ap line_ends same)
 
 -- A line of a stimulus has room for each header and each row.
 pub room_names : (inputs : List DataInput) (room : ℕ) → room ≡ longest_line inputs → sum_by (λ input. length input.name + 1) inputs ≤ room

@@ -6,4 +6,5 @@ pub mod Reader
 pub mod Ports
 pub mod Reading
 pub mod RowLaws
+pub mod ReadLaws
 pub mod Refused

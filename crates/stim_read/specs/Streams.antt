@@ -1,6 +1,6 @@
 -- The lines of a stream: what a reader has read and not used yet, what it still can read, and the
 -- first line of these bytes.
-use Rattle.std.specs.Prelude.{◌≡◌, ◌≢◌, ℕ, ◌+◌, ◌-◌, ◌<◌, ◌≤◌, ◌⊎◌, Bool, true, false, List, [], ◌∷◌, ◌++◌, length, take, drop, All, ⊤, Option, Some, None}
+use Rattle.std.specs.Prelude.{◌≡◌, ◌≢◌, ℕ, ◌+◌, ◌-◌, ◌<◌, ◌≤◌, ◌⊎◌, Bool, true, false, List, [], ◌∷◌, ◌++◌, ◌==◌, length, take, drop, count_by, All, ⊤, Option, Some, None}
 use Rattle.std.specs.Str.Lines.{lines}
 use Rattle.std.specs.Io.KnownBytes.{prepend_known, IsAtEnd}
 use Rattle.stim_read.specs.declared.line_reader.TheConstants.{PIECE}
@@ -70,3 +70,13 @@ abbrev pub ReadsAhead : ℕ → List ℕ → Option (List ℕ) → Option (List 
 ReadsAhead most unused None left = ⊤
 ReadsAhead most unused (Some bytes) None = ⊥
 ReadsAhead most unused (Some bytes) (Some left) = (left ≡ bytes) ⊎ ReadsOn most unused bytes left
+
+-- how many line ends there are among bytes
+abbrev pub line_ends : List ℕ → ℕ
+line_ends bytes = count_by (λ byte. byte == newline) bytes
+
+-- Where it is told what is left: of the line ends among the unused bytes and those left, all but so many are still there.
+abbrev pub UsesEnds : ℕ → List ℕ → Option (List ℕ) → List ℕ → Option (List ℕ) → Type 0
+UsesEnds count unused None behind left = ⊤
+UsesEnds count unused (Some bytes) behind None = ⊤
+UsesEnds count unused (Some bytes) behind (Some left) = line_ends unused + line_ends bytes ≤ count + (line_ends behind + line_ends left)

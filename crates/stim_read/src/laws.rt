@@ -1,4 +1,4 @@
-ghost use Rattle.std.specs.Prelude.{◌≡◌, ℕ, ◌++◌, ◌∷◌, ◌≤◌, [], Bool, List, Option, Some, length};
+ghost use Rattle.std.specs.Prelude.{◌≡◌, ℕ, ◌+◌, ◌++◌, ◌∷◌, ◌≤◌, [], Bool, List, Option, Some, length};
 ghost use Rattle.std.specs.Io.KnownBytes.{IsAtEnd};
 ghost use Rattle.ila_base.specs.declared.refusal.StimRefusal.{StimRefusal as StimRefusalOf};
 ghost use Rattle.net_core.specs.Netlist.{Netlist as NetlistOf};
@@ -9,6 +9,8 @@ ghost use Rattle.stim_read.specs.Reading.{Reading, rest, most_rows, Begins, Take
 ghost use Rattle.stim_read.specs.Refused.{IsRefused};
 ghost use Rattle.stim_read.specs.Ports.{data_inputs};
 ghost use Rattle.stim_read.specs.RowLaws.{HasTaken};
+ghost use Rattle.stim_read.specs.ReadLaws.{IsReadFor};
+ghost use Rattle.stim_read.specs.Streams.{ReadsAhead, UsesEnds};
 
 /// A text stands for at most one list of rows.
 pub fn rows_are_one()
@@ -35,6 +37,17 @@ pub fn rows_are_taken()
     ensures few { (inputs : List DataInput) (text : List ℕ) (rows : List (List Bool))
         (reading : Reading) (left : Option (List ℕ))
         → HasTaken inputs text rows reading left → length rows ≤ most_rows }
+{}
+
+/// No more is read of a text than the rows that are taken need: before the last piece there are no
+/// more line ends than rows.
+pub fn rows_are_read()
+    ensures begun { (text unused : List ℕ) (most : ℕ) (left : Option (List ℕ))
+        → ReadsAhead most [] (Some text) left → UsesEnds 1 [] (Some text) unused left
+        → IsReadFor text 0 unused left }
+    ensures more { (text unused next : List ℕ) (rows most : ℕ) (left after : Option (List ℕ))
+        → IsReadFor text rows unused left → ReadsAhead most unused left after
+        → UsesEnds 1 unused left next after → IsReadFor text (rows + 1) next after }
 {}
 
 /// A text is refused for one reason at most, and for none where it stands for rows, which are not more

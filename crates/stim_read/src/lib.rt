@@ -16,6 +16,6 @@ mod tests;
 
 pub use faults::{StimFault, StimStop};
 pub use inputs::{DataInput, Field};
-pub use laws::{inputs_have_names, one_refusal, rows_are_one, rows_are_taken};
+pub use laws::{inputs_have_names, one_refusal, rows_are_one, rows_are_read, rows_are_taken};
 pub use ports::data_inputs;
 pub use stim::Stim;

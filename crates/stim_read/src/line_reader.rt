@@ -5,7 +5,7 @@ ghost use Rattle.ila_base.specs.Faults.{Rose};
 ghost use Rattle.stim_read.specs.declared.line_reader.Found.TheVariants as found;
 ghost use Rattle.stim_read.specs.declared.line_reader.LineEnd.TheVariants as got;
 ghost use Rattle.stim_read.specs.declared.line_reader.TheConstants.{PIECE};
-ghost use Rattle.stim_read.specs.Streams.{newline, Unbroken, Finds, between, rest_of, TakesLine, HasLongLine, IsDrained, ReadsAhead};
+ghost use Rattle.stim_read.specs.Streams.{newline, Unbroken, Finds, between, rest_of, TakesLine, HasLongLine, IsDrained, ReadsAhead, UsesEnds};
 
 use ila_base::{Failed, NoMemory, Source};
 use std::alloc::Global;
@@ -182,6 +182,8 @@ impl LineReader {
         ensures line { result ≡ Ok got.Line
             → TakesLine (rest_with_line self.old (S.left source.old)) self.new.line.items
             (rest_behind self.new (S.left source.new)) }
+        ensures used { result ≡ Ok got.Line → UsesEnds 1 (unused_of self.old) (S.left source.old)
+            (ahead_of self.new) (S.left source.new) }
         ensures end { result ≡ Ok got.End → IsAtEnd (rest_with_line self.old (S.left source.old)) }
         ensures ends { result ≡ Ok got.End → (self.new.line.items ≡ [])
             × (self.new.at ≡ self.new.end) × (self.new.ended ≡ true) }

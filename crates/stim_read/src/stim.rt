@@ -10,7 +10,7 @@ ghost use Rattle.stim_read.specs.Ports.{data_inputs};
 ghost use Rattle.stim_read.specs.Stimulus.{IsRow, AreNames, names_of, longest_line};
 ghost use Rattle.stim_read.specs.Words.{AllFit, AllApart};
 ghost use Rattle.stim_read.specs.Reading.{Reading, rest, most_rows, TakesRow, Refuses, RefusesLine, IsSomeRow, Begins, HasNoHeader};
-ghost use Rattle.stim_read.specs.Streams.{Unbroken, ReadsPart, ReadsAhead, IsDrained};
+ghost use Rattle.stim_read.specs.Streams.{Unbroken, ReadsPart, ReadsAhead, UsesEnds, IsDrained};
 
 use crate::faults::{StimFault, StimStop};
 use crate::header::header;
@@ -106,6 +106,8 @@ impl Stim {
             → (why ≡ refusal.Header) × HasNoHeader inputs.now (S.left source.old) }
         ensures fault { result ≡ Err stop.ReadFault
             → ReadsPart (S.left source.old) (S.left source.new) }
+        ensures used { IfOk result (λ stim. UsesEnds 1 [] (S.left source.old) stim.unused
+            (S.left source.new)) }
         ensures ahead { ReadsAhead (longest_line inputs.now) [] (S.left source.old)
             (S.left source.new) }
         ensures cause { result ≡ Err stop.ReadFault
@@ -147,6 +149,8 @@ impl Stim {
             → (why ≡ refusal.Header) × HasNoHeader (data_inputs flat.now) (S.left source.old) }
         ensures fault { result ≡ Err stop.ReadFault
             → ReadsPart (S.left source.old) (S.left source.new) }
+        ensures used { IfOk result (λ stim. UsesEnds 1 [] (S.left source.old) stim.unused
+            (S.left source.new)) }
         ensures ahead { ReadsAhead (longest_line (data_inputs flat.now)) [] (S.left source.old)
             (S.left source.new) }
         ensures cause { result ≡ Err stop.ReadFault
@@ -196,6 +200,8 @@ impl Stim {
         ensures ahead { ReadsAhead self.old.most self.old.unused (S.left source.old)
             (S.left source.new) }
         ensures most { self.new.most ≡ self.old.most }
+        ensures used { result ≡ Ok true → UsesEnds 1 self.old.unused (S.left source.old)
+            self.new.unused (S.left source.new) }
         ensures quiet { (Unbroken self.old.unused → ⊥) → source.new ≡ source.old }
         ensures ended { self.old.ended ≡ true → (source.new ≡ source.old)
             × (self.new.ended ≡ true) }

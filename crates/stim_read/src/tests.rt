@@ -3,7 +3,7 @@ ghost use Rattle.stim_read.specs.Stimulus.{AreNames, names_of};
 
 use crate::{
     DataInput, Stim, StimFault, StimStop, inputs_have_names, one_refusal, rows_are_one,
-    rows_are_taken,
+    rows_are_read, rows_are_taken,
 };
 use ila_base::{MemSource, Name, NoMemory, StimRefusal};
 use std::alloc::Global;
@@ -134,6 +134,7 @@ fn texts_without_a_header(rt: HostRuntime) -> Result<(), Fail> {
 fn laws_hold() {
     rows_are_one();
     rows_are_taken();
+    rows_are_read();
     one_refusal();
     inputs_have_names();
 }

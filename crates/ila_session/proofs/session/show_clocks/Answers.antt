@@ -3,7 +3,7 @@ use Rattle.std.specs.Io.KnownBytes.{Appends}
 use Rattle.ila_base.specs.Faults.{AppendsFront}
 use Rattle.net_core.specs.Run.{History, IsRun, StandsFor}
 use Rattle.stim_read.specs.Reading.{Reading}
-use Rattle.ila_session.proofs.Taking.{takes_more, takes_same, takes_end, at_end, refuses_behind, stands_on, none_some, err_ok, ok_err, false_true}
+use Rattle.ila_session.proofs.Taking.{takes_more, reads_more, takes_same, takes_end, at_end, refuses_behind, stands_on, none_some, err_ok, ok_err, false_true, refused_same}
 use Rattle.ila_session.proofs.Running.{at_last, shows_more, shows_front}
 use Rattle.ila_session.proofs.session.show_clocks.Goals as goal
 
@@ -28,7 +28,12 @@ returns-in-Err-Refused-clause-ends g c =
     let inv = c.loop-why.invariant in
     let why = c.in-Err-Refused.why in (
       inv.rows,
-      refuses_behind _ _ _ _ inv.rows why inv.showed.taken (λ was. (inv.open_yet why was, (inv.again why (inv.open_yet why was)).0))
+      refuses_behind _ _ _ _ inv.rows why inv.showed.taken (inv.open_yet why)
+          (λ other was. (
+            refused_same c.in-Err-Refused.field-0 other why (c.in-Err-Refused.ensures.again other (ap (λ (r : Reading). r.refused) (inv.again other was).2 ∙ was)).0
+                c.in-Err-Refused.field-0-is,
+            (inv.again other was).0,
+          ))
           (c.in-Err-Refused.ensures.refused why (ap Err c.in-Err-Refused.field-0-is)).1 _ c.in-Err-Refused.ensures.ahead,
       inv.showed.stands,
       inv.shown,
@@ -75,6 +80,8 @@ returns-in-Err-clause-ends g c =
       },
       shows_front (record { head = []; clock = g.T.ClockText.text c.args.text.now }) net inv.rows row (g.K.Sink.written c.args.trace.now) (g.K.Sink.written c.loop-why.trace)
           (g.K.Sink.written c.show_clock.new.trace) inv.shown wrote,
+      reads_more c.args.stim.now c.loop-why.stim c.next.new.self (g.S.Source.left c.args.source.now) (g.S.Source.left c.loop-why.source) (g.S.Source.left c.next.new.source) inv.rows row
+          inv.read took.ahead (took.used (ap Ok c.in-Ok-true.field-0-test)),
     )
 
 pub loop-why-preserved : goal.loop-why-preserved
@@ -115,6 +122,8 @@ loop-why-preserved g c =
             c.bits.ensures inv.showed.taken takes took.fields.0 took.fields.1;
         stands = stands;
       };
+      read = reads_more c.args.stim.now c.loop-why.stim c.next.new.self (g.S.Source.left c.args.source.now) (g.S.Source.left c.loop-why.source) (g.S.Source.left c.next.new.source) inv.rows row
+          inv.read took.ahead (took.used (ap Ok c.in-Ok-true.field-0-test));
       shown = shows_more (record { head = []; clock = g.T.ClockText.text c.args.text.now }) net inv.rows row (g.K.Sink.written c.args.trace.now) (g.K.Sink.written c.loop-why.trace)
           (g.K.Sink.written c.show_clock.new.trace) inv.shown wrote;
       drained = λ drained. took.drained (inv.drained drained);

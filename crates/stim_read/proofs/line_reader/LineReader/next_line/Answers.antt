@@ -2,7 +2,7 @@ use Rattle.std.proofs.Common.{◌≤◌, refl, arith, subst, sym, ◌∙◌, ap}
 use Rattle.std.specs.Prelude.{◌==◌}
 use Rattle.stim_read.specs.Streams.{Unbroken, between, rest_of}
 use Rattle.stim_read.proofs.Whole.{whole, keeps_all, whole_filled, whole_line, long_line, last_line, nothing_between}
-use Rattle.stim_read.proofs.Ahead.{read_none, read_more, reads_ahead}
+use Rattle.stim_read.proofs.Ahead.{read_none, read_more, reads_ahead, ends_used, newline_used}
 use Rattle.stim_read.proofs.line_reader.LineReader.next_line.Goals as goal
 
 pub returns-in-Newline-clause-line : goal.returns-in-Newline-clause-line
@@ -106,3 +106,23 @@ returns-then-not-branch-clause-ahead g c =
     (g.S.Source.left c.args.source.now) (g.S.Source.left c.loop-self.source) (g.S.Source.left c.fill.new.source) c.loop-self.invariant.read c.in-Nothing.ensures.found.2 c.fill.ensures.line
     c.fill.ensures.taken)
     new.unbroken (subst (λ n. n ≤ new.most) new.line.ok.0 new.room.0) (c.fill.ensures.most ∙ c.take_ahead.ensures.kept.0 ∙ c.loop-self.invariant.most) new.within.0 new.within.1 new.size
+
+pub returns-in-Newline-clause-used : goal.returns-in-Newline-clause-used
+returns-in-Newline-clause-used g c = λ _.
+    let self = c.loop-self.self in
+    let found = c.take_ahead.new.self in
+    let new = c.strip.new.self in
+    ends_used 1 _ self.line.items (between self.buffer.items self.at self.end) (between new.buffer.items new.at new.end) (g.S.Source.left c.args.source.now) (g.S.Source.left c.loop-self.source)
+    c.loop-self.invariant.read self.unbroken
+    (newline_used self.most self.line.items (between self.buffer.items self.at self.end) found.line.items (between found.buffer.items found.at found.end)
+    (between new.buffer.items new.at new.end) c.in-Newline.ensures.found c.strip.ensures.ahead)
+
+pub returns-then-not-branch-clause-used : goal.returns-then-not-branch-clause-used
+returns-then-not-branch-clause-used g c = λ _.
+    let self = c.loop-self.self in
+    let new = c.fill.new.self in
+    ends_used 1 _ new.line.items (between new.buffer.items new.at new.end) (between new.buffer.items new.at new.end) (g.S.Source.left c.args.source.now) (g.S.Source.left c.fill.new.source)
+    (read_more _ self.line.items (between self.buffer.items self.at self.end) c.take_ahead.new.self.line.items new.line.items (between new.buffer.items new.at new.end)
+    (g.S.Source.left c.args.source.now) (g.S.Source.left c.loop-self.source) (g.S.Source.left c.fill.new.source) c.loop-self.invariant.read c.in-Nothing.ensures.found.2 c.fill.ensures.line
+    c.fill.ensures.taken)
+    new.unbroken (omega arith)
