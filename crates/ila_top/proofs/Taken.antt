@@ -1,5 +1,5 @@
 -- The rows that were taken of a stimulus, where it is told, and why the line behind them is refused.
-use Rattle.std.proofs.Common.{◌≡◌, ℕ, ◌≤◌, Bool, List, ◌∷◌, ◌++◌, length, Option, Some, None, ◌⊎◌, refl, sym, ◌∙◌, ap, subst, inl, inr, arith}
+use Rattle.std.proofs.Common.{◌≡◌, ℕ, ◌≤◌, Bool, List, [], ◌∷◌, ◌++◌, length, Option, Some, None, ◌⊎◌, refl, sym, ◌∙◌, ap, subst, inl, inr, arith}
 use Rattle.std.specs.Prelude.{sum}
 use Rattle.std.specs.Str.Lines.{lines}
 use Rattle.std.specs.Io.KnownBytes.{Keeps, IsAtEnd, prepend_known}
@@ -10,14 +10,15 @@ use Rattle.stim_read.specs.declared.inputs.DataInput.{DataInput}
 use Rattle.stim_read.specs.declared.inputs.Field.{Field}
 use Rattle.stim_read.specs.Stimulus.{widths_of, fields_of}
 use Rattle.stim_read.specs.Reading.{Reading, rest, Refuses, RefusesLine, IsSomeRow, Begins as HasBegun}
-use Rattle.stim_read.specs.Streams.{Unbroken, rest_of}
+use Rattle.stim_read.specs.Streams.{Unbroken, rest_of, ReadsAhead, UsesEnds}
 use Rattle.stim_read.specs.Refused.{IsRefusedBehind}
+use Rattle.stim_read.specs.ReadLaws.{read_header}
 use Rattle.stim_read.specs.RowLaws.{HasTaken, begun_taken, taken_all}
-use Rattle.ila_session.specs.Shown.{TakesRows, ReadsOnlyPart, RefusesBehind}
+use Rattle.ila_session.specs.Shown.{TakesRows, ReadsRows, ReadsOnlyPart, RefusesBehind, IsRefusedAt}
 use Rattle.design_text.specs.DesignText.{ShowsDesign}
 use Rattle.ila_top.specs.declared.status.Status.{Status}
 use Rattle.ila_top.specs.declared.status.Status.TheVariants.{Stimulus, ReadFault, NoMemory}
-use Rattle.ila_top.specs.Rows.{BeginsIfTold, HasRowsIfTold, RefusesIfTold, ReadsRowsIfTold}
+use Rattle.ila_top.specs.Rows.{BeginsIfTold, HasRowsIfTold, RefusesIfTold, ReadsRowsIfTold, ReadsNoFurther}
 use Rattle.ila_top.specs.Outside.{Streams}
 use Rattle.ila_top.specs.Reading.{Topped}
 use Rattle.ila_top.specs.Simulating.{SimStreams, BeginAnswer, OnlyBegins, inputs_of}
@@ -76,9 +77,10 @@ module _ (inputs : List DataInput) (start : Option (List ℕ)) (reading : Readin
         refuses = subst C has.taken (subst S has.size (subst F has.fields given.3));
       }
 
-  pub rows_refused : (text : Option (List ℕ)) (why : StimRefusal) → HasBegun inputs text start reading → RefusesBehind reading start rows why → RefusesIfTold inputs text rows why
-  rows_refused None why begun behind = tt
-  rows_refused (Some text) why begun behind =
+  pub rows_refused : (text : Option (List ℕ)) (why : StimRefusal) (end : Option (List ℕ)) → HasBegun inputs text start reading → RefusesBehind reading start rows why end
+      → RefusesIfTold inputs text rows why
+  rows_refused None why end begun behind = tt
+  rows_refused (Some text) why end begun behind =
       refused_at text behind.reading behind.later why (behind.taken inputs text (begun_taken inputs text reading start begun)) behind.refuses
 
 -- behind a header no line is refused as a header
@@ -91,14 +93,22 @@ no_header reading left Header refuses is = none left refuses
 no_header reading left (Line n) refuses is = absurd (cc is)
 no_header reading left (Limit n) refuses is = absurd (cc is)
 
-pub behind_header : (before : Reading) (start : Option (List ℕ)) (rows : List (List Bool)) (why : StimRefusal) → RefusesBehind before start rows why → why ≡ Header → ⊥
-behind_header before start rows why behind = no_header behind.reading (rest behind.reading behind.later) why behind.refuses
+pub behind_header : (before : Reading) (start : Option (List ℕ)) (rows : List (List Bool)) (why : StimRefusal) (end : Option (List ℕ)) → RefusesBehind before start rows why end
+    → why ≡ Header → ⊥
+behind_header before start rows why end behind = no_header behind.reading (rest behind.reading behind.later) why behind.refuses
 
 -- a reader that had refused nothing refuses a line
-pub only_behind : (before : Reading) (start : Option (List ℕ)) (rows : List (List Bool)) (why : StimRefusal) → before.refused ≡ None
-    → ((before.refused ≡ Some why) ⊎ RefusesBehind before start rows why) → RefusesBehind before start rows why
-only_behind before start rows why none (inl some) = absurd (let e : None ≡ Some why = sym none ∙ some in cc e)
-only_behind before start rows why none (inr behind) = behind
+pub only_behind : (before : Reading) (start : Option (List ℕ)) (rows : List (List Bool)) (why : StimRefusal) (end : Option (List ℕ)) → before.refused ≡ None
+    → IsRefusedAt before start rows why end → RefusesBehind before start rows why end
+only_behind before start rows why end none (inl some) = absurd (let e : None ≡ Some why = sym none ∙ some.0 in cc e)
+only_behind before start rows why end none (inr behind) = behind.1
+
+-- no more was read than the header needed, and then than the last of these rows needed
+pub read_no_further : (text : Option (List ℕ)) (most : ℕ) (reading : Reading) (start : Option (List ℕ)) (rows : List (List Bool)) (after : Reading) (later : Option (List ℕ))
+    → ReadsAhead most [] text start → UsesEnds 1 [] text reading.unused start → ReadsRows reading start rows after later → ReadsNoFurther text (length rows) later
+read_no_further None most reading start rows after later ahead uses reads = tt
+read_no_further (Some text) most reading start rows after later ahead uses reads =
+    (after.unused, reads text (read_header text reading.unused most start ahead uses))
 
 -- a count that rose since a later moment rose since an earlier one
 pub rose_since : (a b c : ℕ) → a ≤ b → Rose b c → Rose a c

@@ -5,6 +5,7 @@ use Rattle.ila_base.specs.declared.refusal.StimRefusal.{StimRefusal}
 use Rattle.stim_read.specs.declared.inputs.DataInput.{DataInput}
 use Rattle.stim_read.specs.Stimulus.{IsStimulus}
 use Rattle.stim_read.specs.Reading.{most_rows}
+use Rattle.stim_read.specs.ReadLaws.{IsReadFor}
 use Rattle.stim_read.specs.Refused.{BeginsWith, IsRefusedBehind}
 use Rattle.stim_read.specs.Streams.{Unbroken}
 
@@ -27,3 +28,9 @@ ReadsRowsIfTold inputs None rows left = ⊤
 ReadsRowsIfTold inputs (Some text) rows None = ⊥
 ReadsRowsIfTold inputs (Some text) rows (Some left) =
     (order : List ℕ) × (part : List ℕ) × Unbroken part × BeginsWith inputs text order rows (lines (part ++ left))
+
+-- Where the stimulus is told, no more was read of it than its header and so many rows need: before a last piece it has no more line
+-- ends than rows.
+abbrev pub ReadsNoFurther : Option (List ℕ) → ℕ → Option (List ℕ) → Type 0
+ReadsNoFurther None rows left = ⊤
+ReadsNoFurther (Some text) rows left = (unused : List ℕ) × IsReadFor text rows unused left

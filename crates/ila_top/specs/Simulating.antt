@@ -1,5 +1,5 @@
 -- What `sim` does: it loads a netlist, and shows the outputs of its design over the stimulus.
-use Rattle.std.specs.Prelude.{◌≡◌, ℕ, Bool, true, List, [], ⊤, ◌⊎◌, Option}
+use Rattle.std.specs.Prelude.{◌≡◌, ℕ, Bool, true, List, [], length, ⊤, ◌⊎◌, Option}
 use Rattle.std.specs.Io.KnownBytes.{IsAtEnd}
 use Rattle.ila_base.specs.Faults.{Rose}
 use Rattle.ila_base.specs.declared.refusal.StimRefusal.{StimRefusal}
@@ -14,7 +14,7 @@ use Rattle.stim_read.specs.Reading.{HasNoHeader}
 use Rattle.stim_read.specs.Stimulus.{longest_line}
 use Rattle.stim_read.specs.Streams.{ReadsPart, ReadsAhead}
 use Rattle.design_text.specs.DesignText.{design_inputs, ShowsDesign, ShowsDesignFront}
-use Rattle.ila_top.specs.Rows.{BeginsIfTold, HasRowsIfTold, RefusesIfTold, ReadsRowsIfTold}
+use Rattle.ila_top.specs.Rows.{BeginsIfTold, HasRowsIfTold, RefusesIfTold, ReadsRowsIfTold, ReadsNoFurther}
 use Rattle.ila_top.specs.Commands.{SimWords}
 use Rattle.ila_top.specs.Outside.{Streams, Outside, LeavesFiles}
 use Rattle.ila_top.specs.Stage.{Stage, ◌>>=◌}
@@ -72,8 +72,8 @@ SimStreams job before after (Stimulus why) = (rows : List (List Bool)) × Refuse
     × ShowsDesign job.design rows before.written after.written
 SimStreams job before after ReadFault = Rose before.read_faults after.read_faults
     × ((ReadsPart before.left after.left × OnlyBegins job before after) ⊎ ShowsTaken job before after)
-SimStreams job before after WriteFault = Rose before.write_faults after.write_faults
-    × ((rows : List (List Bool)) × BeginsIfTold (inputs_of job) before.left rows × ShowsDesignFront job.design rows before.written after.written)
+SimStreams job before after WriteFault = Rose before.write_faults after.write_faults × ((rows : List (List Bool)) × BeginsIfTold (inputs_of job) before.left rows
+    × ReadsNoFurther before.left (length rows) after.left × ShowsDesignFront job.design rows before.written after.written)
 SimStreams job before after NoMemory = OnlyBegins job before after
 SimStreams job before after _ = ⊥
 

@@ -1,12 +1,12 @@
 //! An accepted design simulated over a stimulus.
 
-ghost use Rattle.std.specs.Prelude.{◌≡◌, ◌≤◌, length, None, IfOk, IfErr};
+ghost use Rattle.std.specs.Prelude.{◌≡◌, ◌≤◌, [], length, None, IfOk, IfErr};
 ghost use Rattle.net_core.specs.Netlist.{input_nets};
 ghost use Rattle.net_core.specs.WellFormed.{IsFlat};
 ghost use Rattle.net_levels.specs.Levels.{AreLevels};
 ghost use Rattle.stim_read.specs.Ports as ports;
 ghost use Rattle.stim_read.specs.Reading.{Begins};
-ghost use Rattle.stim_read.specs.Streams.{IsDrained};
+ghost use Rattle.stim_read.specs.Streams.{IsDrained, UsesEnds};
 ghost use Rattle.ila_top.specs.Outside.{streams_of};
 ghost use Rattle.ila_top.specs.Reading.{Topped};
 ghost use Rattle.ila_top.specs.Simulating.{HasFlat, SimStreams, BeginAnswer, ReadsHeader};
@@ -27,6 +27,7 @@ fn begin<S: Source>(alloc: Global, flat: &Flat, stimulus: &mut S) -> Result<Stim
     ensures size { IfOk result (λ stim. length stim.bits ≡ length (input_nets flat.now)) }
     ensures drained { IfOk result (λ stim. IsDrained stim.ended (S.left stimulus.new)) }
     ensures cause { IfErr result (BeginAnswer (ports.data_inputs flat.now) (S.left stimulus.old) (S.left stimulus.new) (S.faults stimulus.old) (S.faults stimulus.new)) }
+    ensures used { IfOk result (λ stim. UsesEnds 1 [] (S.left stimulus.old) stim.unused (S.left stimulus.new)) }
     ensures ahead { ReadsHeader (ports.data_inputs flat.now) (S.left stimulus.old) (S.left stimulus.new) }
     ensures later { S.faults stimulus.old ≤ S.faults stimulus.new }
 {

@@ -4,7 +4,7 @@ use Rattle.stim_read.specs.Ports as ports
 use Rattle.ila_top.specs.Outside.{Streams, streams_of}
 use Rattle.ila_top.specs.Simulating.{BeginAnswer, ReadsHeader}
 use Rattle.ila_top.specs.Rows.{BeginsIfTold, HasRowsIfTold, RefusesIfTold, ReadsRowsIfTold}
-use Rattle.ila_top.proofs.Taken.{rows_begin, rows_read, rows_all, rows_refused, only_behind, behind_header, answer_refused, answer_begin, rose_since}
+use Rattle.ila_top.proofs.Taken.{rows_begin, rows_read, rows_all, rows_refused, only_behind, read_no_further, behind_header, answer_refused, answer_begin, rose_since}
 use Rattle.ila_top.proofs.simulate.simulate.Goals as goal
 
 pub returns-in-Err-clause-answers : goal.returns-in-Err-clause-answers
@@ -34,14 +34,14 @@ pub returns-in-Err-Stimulus-clause-answers : goal.returns-in-Err-Stimulus-clause
 returns-in-Err-Stimulus-clause-answers g c = λ job own.
     let same = c.inputs_agree.ensures job.design c.args.flat.now job.top own.checked c.requires.flat own.elaborates own.is_top in
     let refused = c.in-Err-Stimulus.ensures.refused c.in-Err-Stimulus.why (ap Err c.in-Err-Stimulus.field-0-is) in
-    let behind = only_behind c.in-Ok-begin.stim (g.S.Source.left c.begin.new.stimulus) refused.0 c.in-Err-Stimulus.why c.in-Ok-begin.ensures.begun.refused refused.1 in
+    let behind = only_behind c.in-Ok-begin.stim (g.S.Source.left c.begin.new.stimulus) refused.0 c.in-Err-Stimulus.why _ c.in-Ok-begin.ensures.begun.refused refused.1 in
     let told : RefusesIfTold (ports.data_inputs c.args.flat.now) (g.S.Source.left c.args.stimulus.now) refused.0 c.in-Err-Stimulus.why =
     rows_refused (ports.data_inputs c.args.flat.now) (g.S.Source.left c.begin.new.stimulus) c.in-Ok-begin.stim refused.0 (g.S.Source.left c.args.stimulus.now)
-    c.in-Err-Stimulus.why c.in-Ok-begin.ensures.begun behind in
+    c.in-Err-Stimulus.why _ c.in-Ok-begin.ensures.begun behind in
     let I : List DataInput → Type 0 = λ inputs. RefusesIfTold inputs (g.S.Source.left c.args.stimulus.now) refused.0 c.in-Err-Stimulus.why in
     let before : Streams _ _ = streams_of g.S.Source g.K.Sink c.args.stimulus.now c.args.trace.now in
     let after : Streams _ _ = streams_of g.S.Source g.K.Sink c.show.new.source c.show.new.trace in
-    answer_refused job before after c.in-Err-Stimulus.why (behind_header c.in-Ok-begin.stim (g.S.Source.left c.begin.new.stimulus) refused.0 c.in-Err-Stimulus.why behind) refused.0
+    answer_refused job before after c.in-Err-Stimulus.why (behind_header c.in-Ok-begin.stim (g.S.Source.left c.begin.new.stimulus) refused.0 c.in-Err-Stimulus.why _ behind) refused.0
     (subst I same told) (c.shows_design.ensures.whole job.design c.args.flat.now own.checked c.requires.flat own.elaborates refused.0 refused.2.history refused.2.one _ _ refused.3)
 
 pub returns-in-Err-ReadFault-clause-answers : goal.returns-in-Err-ReadFault-clause-answers
@@ -72,6 +72,7 @@ returns-in-Err-WriteFault-clause-answers g c = λ job own.
       (
         fault.0,
         subst I same told,
+        read_no_further _ _ c.in-Ok-begin.stim _ fault.0 _ _ c.begin.ensures.ahead c.in-Ok-begin.ensures.used fault.4,
         c.shows_design.ensures.front job.design c.args.flat.now own.checked c.requires.flat own.elaborates fault.0 fault.2.stands.history fault.2.stands.one _ _ fault.3,
       ),
     )
