@@ -1,32 +1,18 @@
 -- A bit of a design has one name, and a cell of a flat netlist is found by its name.
-use Rattle.std.proofs.Common.{◌≡◌, ◌↔◌, ℕ, zero, suc, ◌+◌, ◌<◌, ◌≤◌, Bool, true, false, cond, List, [], ◌∷◌, ◌++◌, map, length, slice_get, Option, Some, None, refl, ap, sym, ◌∙◌, subst, arith, true≢false, inl, inr}
-use Rattle.std.specs.List.{flat_map, filter_map}
-use Rattle.std.specs.Option.{option_map, option_map_or}
+use Rattle.std.proofs.Common.{◌≡◌, ℕ, zero, suc, Bool, true, false, cond, List, [], ◌∷◌, slice_get, Option, Some, None, refl, ap, sym, ◌∙◌, subst, arith, true≢false}
 use Rattle.std.specs.Str.{bytes_eq}
-use Rattle.std.proofs.lemmas.Bool.{false_from_ne_true}
-use Rattle.std.proofs.lemmas.Option.{same_Some, slice_get-map}
+use Rattle.std.proofs.lemmas.Option.{same_Some}
 use Rattle.net_core.specs.declared.parts.Cell.{Cell}
-use Rattle.net_core.specs.declared.parts.Group.{Group}
-use Rattle.net_core.specs.CellTable.{content_size}
-use Rattle.net_core.specs.Netlist.{Netlist, IsData, parts_of, is_driven, is_clock}
-use Rattle.net_core.specs.Run.{History, IsRun, IsOneRun}
-use Rattle.net_core.specs.WellFormed.{IsFlat, AllDiffer, net_names, identifiers}
-use Rattle.net_core.specs.Lookup.{IsNetNamed, IsCellNamed}
-use Rattle.net_core.proofs.ListLemmas.{option_map_some}
 use Rattle.vlog_parse.specs.declared.tree.Module.{Module}
 use Rattle.vlog_parse.specs.declared.tree.Inst.{Inst}
 use Rattle.vlog_parse.specs.declared.tree.Item.TheVariants as items
 use Rattle.vlog_parse.specs.declared.tree.Range.{Range}
 use Rattle.vlog_parse.specs.ReadTree.{In}
 use Rattle.vlog_check.specs.declared.found.Found.{Found}
-use Rattle.vlog_check.specs.Checked.{Finds, IsChecked}
+use Rattle.vlog_check.specs.Checked.{Finds}
 use Rattle.vlog_check.specs.Scope.{kind_of, OfModule, range_of}
-use Rattle.elab_design.specs.Design.{Path, Bit, bit_of, indices, net_bits, Design, IsTop, Leads, at_top, into, IsNetBit}
-use Rattle.elab_design.specs.DesignCells.{DesignCell, HasCell}
-use Rattle.elab_design.specs.DesignRuns.{IsKept, IsDataBit, DesignHistory, named_content, content_in, IsDesignRun, IsOneDesignRun, SameDesignHistory}
-use Rattle.elab_design.specs.Order.{group_bits}
-use Rattle.elab_design.specs.Names.{flat_name, bit_name, IsBitNamed, cell_name, Carries}
-use Rattle.elab_design.specs.Elaborates.{flat_cell, Elaborates}
+use Rattle.elab_design.specs.Design.{Path, Bit, Design, IsTop, Leads, at_top, into}
+use Rattle.elab_design.specs.Names.{bit_name, IsBitNamed}
 use Rattle.elab_design.proofs.MentionLaws.{names_same, same_names}
 use Rattle.elab_design.proofs.SoundLaws.{leads_in}
 use Rattle.elab_design.proofs.BitLaws.{insts_one}

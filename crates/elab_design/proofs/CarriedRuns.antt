@@ -1,5 +1,5 @@
 -- A run of the flat netlist is carried back to the design, and the other way.
-use Rattle.std.proofs.Common.{◌≡◌, ◌↔◌, ℕ, zero, suc, ◌+◌, ◌<◌, ◌≤◌, Bool, true, false, List, [], ◌∷◌, ◌++◌, map, length, slice_get, Option, Some, None, refl, ap, sym, ◌∙◌, subst, arith, true≢false, inl, inr}
+use Rattle.std.proofs.Common.{◌≡◌, ℕ, zero, suc, ◌+◌, ◌<◌, ◌≤◌, Bool, true, false, List, [], ◌∷◌, ◌++◌, map, length, slice_get, Option, Some, None, ap, sym, ◌∙◌, subst, arith, inl, inr}
 use Rattle.std.specs.List.{flat_map, filter_map}
 use Rattle.std.specs.List.{cons_option}
 use Rattle.std.specs.Option.{option_map, option_map_or}
@@ -8,18 +8,18 @@ use Rattle.std.proofs.lemmas.Option.{same_Some, slice_get-map}
 use Rattle.net_core.specs.declared.parts.Cell.{Cell}
 use Rattle.net_core.specs.declared.parts.Group.{Group}
 use Rattle.net_core.specs.CellTable.{content_size}
-use Rattle.net_core.specs.Netlist.{Netlist, IsData, parts_of, is_driven, is_clock}
-use Rattle.net_core.specs.Run.{History, IsRun, IsOneRun}
-use Rattle.net_core.specs.WellFormed.{IsFlat, net_names, identifiers}
-use Rattle.net_core.specs.Lookup.{IsNetNamed, IsCellNamed}
+use Rattle.net_core.specs.Netlist.{Netlist, IsData, is_clock}
+use Rattle.net_core.specs.Run.{History, IsOneRun}
+use Rattle.net_core.specs.WellFormed.{IsFlat, net_names}
+use Rattle.net_core.specs.Lookup.{IsNetNamed}
 use Rattle.net_core.proofs.ListLemmas.{option_map_some}
 use Rattle.vlog_parse.specs.declared.tree.Range.{Range}
 use Rattle.vlog_parse.specs.ReadTree.{In}
 use Rattle.vlog_check.specs.declared.found.Found.{Found}
 use Rattle.vlog_check.specs.Checked.{Finds}
-use Rattle.elab_design.specs.Design.{Path, Bit, bit_of, indices, Design, IsNetBit}
+use Rattle.elab_design.specs.Design.{Bit, bit_of, indices, Design, IsNetBit}
 use Rattle.elab_design.specs.DesignCells.{DesignCell, HasCell}
-use Rattle.elab_design.specs.DesignRuns.{IsKept, IsDataBit, DesignHistory, named_content, content_in, IsDesignRun, IsOneDesignRun, SameDesignHistory}
+use Rattle.elab_design.specs.DesignRuns.{IsKept, IsDataBit, DesignHistory, named_content, content_in, IsDesignRun, IsOneDesignRun}
 use Rattle.elab_design.specs.Order.{group_bits}
 use Rattle.elab_design.specs.Names.{flat_name, bit_name, IsBitNamed, Carries}
 use Rattle.elab_design.specs.Elaborates.{flat_cell, Elaborates}

@@ -1,23 +1,21 @@
 -- The ports of a flat netlist: their bits, and which of them carry the clock.
-use Rattle.std.proofs.Common.{◌≡◌, ◌↔◌, ℕ, zero, suc, Bool, true, false, not, List, [], ◌∷◌, map, slice_get, Option, Some, None, refl, ap, sym, ◌∙◌, subst, true≢false, inl, inr}
+use Rattle.std.proofs.Common.{◌≡◌, ℕ, Bool, true, false, not, List, [], ◌∷◌, map, slice_get, Option, Some, None, refl, ap, sym, ◌∙◌, subst, true≢false, inl, inr}
 use Rattle.std.specs.List.{flat_map, filter}
 use Rattle.net_core.proofs.PartsLemmas.{filter_some, filter_at}
 use Rattle.std.specs.Option.{option_map, option_map_or}
 use Rattle.std.specs.Str.{bytes_eq}
 use Rattle.std.proofs.lemmas.Bool.{false_from_ne_true}
 use Rattle.std.proofs.lemmas.Option.{same_Some, slice_get-map}
-use Rattle.net_core.specs.declared.parts.NetId.{NetId}
 use Rattle.net_core.specs.declared.parts.Cell.{Cell}
-use Rattle.net_core.specs.declared.parts.Group.{Group}
 use Rattle.net_core.specs.declared.parts.Port.{Port}
-use Rattle.net_core.specs.Netlist.{Netlist, parts_of, Drives, HasDriver, IsIn, IsBuffered, itself, through, IsClock, IsClockPort, IsDriven, input_bits, port_nets, group_nets, is_driven, is_clock}
+use Rattle.net_core.specs.Netlist.{Netlist, parts_of, IsIn, IsBuffered, itself, through, IsClockPort, IsDriven, input_bits, port_nets, group_nets, is_driven, is_clock}
 use Rattle.net_core.specs.WellFormed.{IsFlat}
 use Rattle.vlog_parse.specs.declared.tree.Module.{Module}
 use Rattle.vlog_parse.specs.ReadTree.{In}
 use Rattle.vlog_parse.specs.declared.tree.Range.{Range}
 use Rattle.vlog_check.specs.Scope.{range_of, direction_of, is_output, numbered_from}
 use Rattle.vlog_check.specs.Checked.{IsChecked}
-use Rattle.elab_design.specs.Design.{Path, Bit, Source, Wire, bit_of, indices, net_bits, Design, IsTop, at_top, IsNetBit}
+use Rattle.elab_design.specs.Design.{Path, Bit, Wire, bit_of, indices, net_bits, Design, at_top, IsNetBit}
 use Rattle.elab_design.specs.DesignCells.{DesignCell, HasCell, link}
 use Rattle.elab_design.specs.DesignRuns.{is_input_port, clock_bits, InClock, clock_port, handed_on, Driven, from_cell, from_driven, IsKept}
 use Rattle.elab_design.specs.Order.{group_bits}
@@ -25,13 +23,12 @@ use Rattle.elab_design.specs.Raw.{net_id, flat_group, flat_port}
 use Rattle.elab_design.specs.Names.{flat_name}
 use Rattle.elab_design.specs.Elaborates.{flat_cell, Elaborates, HasFlatPort}
 use Rattle.elab_design.proofs.Lists.{in_none, in_one, in_map, map_in, in_flat_map, flat_map_in, numbered_at}
-use Rattle.elab_design.proofs.MentionLaws.{names_same, same_names, either_way}
 use Rattle.elab_design.proofs.SoundLaws.{IsSoundDesign, sound_design}
 use Rattle.elab_design.proofs.GroupLaws.{bit_listed}
 use Rattle.elab_design.proofs.OrderLaws.{unfolds_all}
 use Rattle.elab_design.proofs.DrivenLaws.{one_link}
 use Rattle.elab_design.proofs.SettledLaws.{in_kept}
-use Rattle.elab_design.proofs.PortLaws.{port_is, nets_at, inputs_from}
+use Rattle.elab_design.proofs.PortLaws.{port_is, nets_at}
 
 -- an input bit of a flat netlist is driven
 input_bit : (net : Netlist) (place : ℕ) (port : Port) (i n : ℕ) → slice_get net.ports place ≡ Some port → port.output ≡ false → slice_get (port_nets net.groups port) i ≡ Some n → IsIn (input_bits (parts_of net)) n

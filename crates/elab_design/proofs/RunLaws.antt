@@ -141,7 +141,7 @@ module _ (d : Design) (net : Netlist) (number : Bit → ℕ) (known : List Bit) 
   -- From the design to the netlist
 
   start_down : IsDesignStart d (h.content 0) → IsStart net (g.content 0)
-  start_down start k cell i at low =
+  start_down start k cell at i low =
       let c = behind k cell at in
       let P : Cell → Type 0 = λ (o : Cell). i < content_size o.kind → g.content 0 k i ≡ initial o.kind i in
       subst P c.2 (λ low. same_stored 0 k i c.0 c.1 low ∙ start c.0 i (own.has c.0 (k, c.1)).0 low) low
@@ -158,14 +158,15 @@ module _ (d : Design) (net : Netlist) (number : Bit → ℕ) (known : List Bit) 
           let its_data : IsData net (number b.0) = subst (IsData net) (sym b.2) bears in
           sym (ap (g.bit t) b.2) ∙ same_bit t b.0 k_b ∙ is.outputs c j b.0 has.0 has.1 b.1 (data_bit b.0 k_b its_data) ∙ sym (same_output t k j c at)
 
-      out : (k : ℕ) (cell : Cell) (j n : ℕ) → Drives net.cells k cell j n → IsData net n → g.bit t n ≡ output cell.kind (input_pins (g.bit t) cell) (g.content t k) j
-      out k cell j n drives bears =
-          let c = behind k cell drives.at in
+      out : (k : ℕ) (cell : Cell) → slice_get net.cells k ≡ Some cell → (j n : ℕ) → slice_get cell.outs j ≡ Some (Some (net_id n)) → IsData net n
+          → g.bit t n ≡ output cell.kind (input_pins (g.bit t) cell) (g.content t k) j
+      out k cell at j n driven bears =
+          let c = behind k cell at in
           let P : Cell → Type 0 = λ (o : Cell). slice_get o.outs j ≡ Some (Some (net_id n)) → g.bit t n ≡ output o.kind (input_pins (g.bit t) o) (g.content t k) j in
-          subst P c.2 (λ on. out_of k j n c.0 c.1 on bears) drives.on
+          subst P c.2 (λ on. out_of k j n c.0 c.1 on bears) driven
 
   next_down : (t u : ℕ) → IsDesignNext d (h.bit t) (h.content t) (h.content u) → IsNext net (g.bit t) (g.content t) (g.content u)
-  next_down t u next k cell i at low =
+  next_down t u next k cell at i low =
       let c = behind k cell at in
       let P : Cell → Type 0 = λ (o : Cell). i < content_size o.kind → g.content u k i ≡ next_content o.kind (input_pins (g.bit t) o) (g.content t k) i in
       subst P c.2 (λ low. same_stored u k i c.0 c.1 low ∙ next c.0 i (own.has c.0 (k, c.1)).0 low ∙ sym (same_next t k i c.0 c.1 low)) low
@@ -182,7 +183,7 @@ module _ (d : Design) (net : Netlist) (number : Bit → ℕ) (known : List Bit) 
   start_up : IsStart net (g.content 0) → IsDesignStart d (h.content 0)
   start_up start c i has low =
       let at = own.all c has (stored_kept d c i has low) in
-      sym (same_stored 0 at.0 i c at.1 low) ∙ start at.0 (flat_cell number c) i (cell_at at.0 c at.1) low
+      sym (same_stored 0 at.0 i c at.1 low) ∙ start at.0 (flat_cell number c) (cell_at at.0 c at.1) i low
 
   settled_up : (t : ℕ) (row : List Bool) → IsSettled net row (g.bit t) (g.content t) → IsDesignSettled d row (h.bit t) (h.content t)
   settled_up t row is = record { inputs = sym (same_inputs t) ∙ is.inputs; outputs = out }
@@ -191,12 +192,12 @@ module _ (d : Design) (net : Netlist) (number : Bit → ℕ) (known : List Bit) 
       out c j b has keeps on bears =
           let at = own.all c has keeps in
           let k = own.drives_known c b has (j, on) in
-          sym (same_bit t b k) ∙ is.outputs at.0 (flat_cell number c) j (number b) (drives_at at.0 j c b at.1 on) (data_net b k bears) ∙ same_output t at.0 j c at.1
+          sym (same_bit t b k) ∙ is.outputs at.0 (flat_cell number c) (cell_at at.0 c at.1) j (number b) (drives_at at.0 j c b at.1 on).on (data_net b k bears) ∙ same_output t at.0 j c at.1
 
   next_up : (t u : ℕ) → IsNext net (g.bit t) (g.content t) (g.content u) → IsDesignNext d (h.bit t) (h.content t) (h.content u)
   next_up t u next c i has low =
       let at = own.all c has (stored_kept d c i has low) in
-      sym (same_stored u at.0 i c at.1 low) ∙ next at.0 (flat_cell number c) i (cell_at at.0 c at.1) low ∙ same_next t at.0 i c at.1 low
+      sym (same_stored u at.0 i c at.1 low) ∙ next at.0 (flat_cell number c) (cell_at at.0 c at.1) i low ∙ same_next t at.0 i c at.1 low
 
   run_up : (rows : List (List Bool)) → IsRun net rows g → IsDesignRun d rows h
   run_up rows run = record {
