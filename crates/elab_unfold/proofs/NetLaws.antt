@@ -7,7 +7,7 @@ use Rattle.std.proofs.lemmas.List.{length-map, append_assoc}
 use Rattle.std.proofs.lemmas.Option.{same_Some, slice_get-map}
 use Rattle.net_core.proofs.ListLemmas.{option_map_some, slice_get_left, slice_get_right}
 use Rattle.net_core.specs.declared.parts.Group.{Group}
-use Rattle.flat_settle.proofs.NameLemmas.{range_width as length-range_indices}
+use Rattle.net_core.proofs.NameLemmas.{range_width as length-range_indices}
 use Rattle.vlog_parse.specs.declared.tree.Module.{Module}
 use Rattle.vlog_parse.specs.declared.tree.Range.{Range}
 use Rattle.vlog_parse.specs.ReadTree.{In}

@@ -11,7 +11,7 @@ use Rattle.std.proofs.lemmas.List.FromFn.{length-range_with_len, get_or-range_wi
 use Rattle.std.proofs.lemmas.Option.{slice_get_within}
 use Rattle.net_core.specs.WellFormed.{range_indices}
 use Rattle.net_core.proofs.NetNameLemmas.{index_from_left, index_from_right}
-use Rattle.flat_settle.proofs.NameLemmas.{range_width as length-range_indices}
+use Rattle.net_core.proofs.NameLemmas.{range_width as length-range_indices}
 use Rattle.ila_base.specs.declared.place.Word.{Word}
 use Rattle.vlog_parse.specs.declared.tree.Expr.{Expr}
 use Rattle.vlog_parse.specs.declared.tree.Expr.TheVariants.{Concat}

@@ -3,7 +3,7 @@ use Rattle.vlog_check.specs.Scope.{has_part}
 use Rattle.elab_unfold.proofs.PinLaws.{some_pins}
 use Rattle.elab_unfold.proofs.RangeLaws.{not_missing, or_some, net_passes, net_room, place_low, part_left, part_fits, part_inside}
 use Rattle.net_core.specs.WellFormed.{range_indices}
-use Rattle.flat_settle.proofs.NameLemmas.{range_width as length-range_indices}
+use Rattle.net_core.proofs.NameLemmas.{range_width as length-range_indices}
 use Rattle.elab_unfold.proofs.exprs.push_part.Goals as goal
 
 pub overflow_add-first : goal.overflow_add-first
