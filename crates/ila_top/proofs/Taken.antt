@@ -103,6 +103,11 @@ pub only_behind : (before : Reading) (start : Option (List ℕ)) (rows : List (L
 only_behind before start rows why end none (inl some) = absurd (let e : None ≡ Some why = sym none ∙ some.0 in cc e)
 only_behind before start rows why end none (inr behind) = behind.1
 
+-- where nothing was read, no more than the header was
+pub nothing_read : (most : ℕ) (text : Option (List ℕ)) → ReadsAhead most [] text text
+nothing_read most None = tt
+nothing_read most (Some text) = inl refl
+
 -- no more was read than the header needed, and then than the last of these rows needed
 pub read_no_further : (text : Option (List ℕ)) (most : ℕ) (reading : Reading) (start : Option (List ℕ)) (rows : List (List Bool)) (after : Reading) (later : Option (List ℕ))
     → ReadsAhead most [] text start → UsesEnds 1 [] text reading.unused start → ReadsRows reading start rows after later → ReadsNoFurther text (length rows) later

@@ -1,8 +1,8 @@
-use Rattle.std.proofs.Common.{List, Err, inr, refl, ap, subst}
+use Rattle.std.proofs.Common.{ℕ, List, Option, Err, inr, refl, sym, ap, subst}
 use Rattle.stim_read.specs.declared.inputs.DataInput.{DataInput}
 use Rattle.stim_read.specs.Ports as ports
 use Rattle.ila_top.specs.Outside.{Streams, streams_of}
-use Rattle.ila_top.specs.Simulating.{BeginAnswer, ReadsHeader}
+use Rattle.ila_top.specs.Simulating.{BeginAnswer, ReadsHeader, inputs_of}
 use Rattle.ila_top.specs.Rows.{BeginsIfTold, HasRowsIfTold, RefusesIfTold, ReadsRowsIfTold}
 use Rattle.ila_top.proofs.Taken.{rows_begin, rows_read, rows_all, rows_refused, only_behind, read_no_further, behind_header, answer_refused, answer_begin, rose_since}
 use Rattle.ila_top.proofs.simulate.simulate.Goals as goal
@@ -72,7 +72,16 @@ returns-in-Err-WriteFault-clause-answers g c = λ job own.
       (
         fault.0,
         subst I same told,
-        read_no_further _ _ c.in-Ok-begin.stim _ fault.0 _ _ c.begin.ensures.ahead c.in-Ok-begin.ensures.used fault.4,
+        read_no_further (g.S.Source.left c.args.stimulus.now) _ c.in-Ok-begin.stim (g.S.Source.left c.begin.new.stimulus) fault.0 c.show.new.stim (g.S.Source.left c.show.new.source)
+            c.begin.ensures.ahead c.in-Ok-begin.ensures.used fault.4,
         c.shows_design.ensures.front job.design c.args.flat.now own.checked c.requires.flat own.elaborates fault.0 fault.2.stands.history fault.2.stands.one _ _ fault.3,
       ),
     )
+
+pub returns-clause-answers : goal.returns-clause-answers
+returns-clause-answers g c = λ job own.
+    let same = c.inputs_agree.ensures job.design c.args.flat.now job.top own.checked c.requires.flat own.elaborates own.is_top in
+    let none = c.in-Err-NoMemory.ensures.memory (ap Err c.in-Err-NoMemory.field-0-is) in
+    let H : List DataInput → Type 0 = λ inputs. ReadsHeader inputs (g.S.Source.left c.args.stimulus.now) (g.S.Source.left c.begin.new.stimulus) in
+    let L : Option (List ℕ) → Type 0 = λ left. ReadsHeader (inputs_of job) (g.S.Source.left c.args.stimulus.now) left in
+    record { trace = none.3; left = subst L (sym (ap (g.S.Source.left) none.2)) (subst H same c.begin.ensures.ahead) }
