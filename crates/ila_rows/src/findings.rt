@@ -4,9 +4,9 @@ use crate::line::Line;
 use crate::outcome::Outcome;
 use crate::refusal_text::{fault_of, write_refusal};
 use crate::table::Entry;
-use ila_base::Place;
+use ila_base::limits::FILE_BYTES;
+use ila_base::{NetFault, Place};
 use std::alloc::Global;
-use vlog_lex::NetFault;
 
 /// A text without its mark `@`, and the place where that stood, which is none where there is no mark.
 #[derive(Drop)]
@@ -15,34 +15,27 @@ struct Marked {
     place: Place,
 }
 
-/// The place behind a byte at this place.
-pub fn behind(place: Place, byte: u8) -> Place {
-    if byte == b'\n' {
-        Place {
-            line: place.line.saturating_add(1),
-            col: 1,
-        }
-    } else {
-        Place {
-            line: place.line,
-            col: place.col.saturating_add(1),
-        }
+/// The place behind the last byte of a text, and none of a text that is too long to be read.
+pub fn place_behind(text: &[u8]) -> Place {
+    if text.len() > FILE_BYTES {
+        return Place::NOWHERE;
     }
+    Place::behind(text)
 }
 
 fn unmarked(alloc: Global, marked: &[u8]) -> Result<Marked, Fault> {
-    let mut text = Vec::new(alloc);
-    let mut front = Place { line: 1, col: 1 };
-    let mut place = Place::NOWHERE;
-    for byte in marked {
-        if *byte == b'@' {
-            place = front;
-            continue;
+    match marked.iter().position(|byte| *byte == b'@') {
+        Some(at) => {
+            let mut text = Vec::from_slice(alloc, &marked[..at])?;
+            let place = place_behind(text.as_slice());
+            text.extend_from_slice(&marked[at + 1..])?;
+            Ok(Marked { text, place })
         }
-        text.push(*byte)?;
-        front = behind(front, *byte);
+        None => Ok(Marked {
+            text: Vec::from_slice(alloc, marked)?,
+            place: Place::NOWHERE,
+        }),
     }
-    Ok(Marked { text, place })
 }
 
 /// Gives the finding with which a row's text is refused where its top is the row's, `m` where it names
