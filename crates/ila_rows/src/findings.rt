@@ -1,42 +1,12 @@
 use crate::design::design_of;
 use crate::fault::Fault;
 use crate::line::Line;
+use crate::marked::unmarked;
 use crate::outcome::Outcome;
 use crate::refusal_text::{fault_of, write_refusal};
 use crate::table::Entry;
-use ila_base::limits::FILE_BYTES;
 use ila_base::{NetFault, Place};
 use std::alloc::Global;
-
-/// A text without its mark `@`, and the place where that stood, which is none where there is no mark.
-#[derive(Drop)]
-struct Marked {
-    text: Vec<u8>,
-    place: Place,
-}
-
-/// The place behind the last byte of a text, and none of a text that is too long to be read.
-pub fn place_behind(text: &[u8]) -> Place {
-    if text.len() > FILE_BYTES {
-        return Place::NOWHERE;
-    }
-    Place::behind(text)
-}
-
-fn unmarked(alloc: Global, marked: &[u8]) -> Result<Marked, Fault> {
-    match marked.iter().position(|byte| *byte == b'@') {
-        Some(at) => {
-            let mut text = Vec::from_slice(alloc, &marked[..at])?;
-            let place = place_behind(text.as_slice());
-            text.extend_from_slice(&marked[at + 1..])?;
-            Ok(Marked { text, place })
-        }
-        None => Ok(Marked {
-            text: Vec::from_slice(alloc, marked)?,
-            place: Place::NOWHERE,
-        }),
-    }
-}
 
 /// Gives the finding with which a row's text is refused where its top is the row's, `m` where it names
 /// none; nothing where the text is accepted. The place is added where it is not that of the mark.

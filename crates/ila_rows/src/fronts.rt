@@ -1,7 +1,7 @@
 use crate::design::tree_of;
 use crate::fault::Fault;
-use crate::findings::place_behind;
 use crate::line::Line;
+use crate::marked::place_behind;
 use crate::outcome::Outcome;
 use crate::refusal_text::{fault_of, placed_text};
 use crate::table::Entry;
