@@ -2,10 +2,11 @@ ghost use Rattle.std.specs.Prelude.{IfOk};
 ghost use Rattle.vlog_parse.specs.ReadTree.{IsReadTree};
 
 use elab_flat::flatten;
+use ila_base::NetStop;
 use net_core::Flat;
 use std::alloc::Global;
 use vlog_check::{Checked, check};
-use vlog_lex::{NetStop, tokens};
+use vlog_lex::tokens;
 use vlog_parse::{Tree, parse};
 
 /// The tree of a text.

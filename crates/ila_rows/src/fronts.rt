@@ -1,11 +1,11 @@
 use crate::design::tree_of;
 use crate::fault::Fault;
-use crate::findings::behind;
 use crate::line::Line;
+use crate::marked::place_behind;
 use crate::outcome::Outcome;
 use crate::refusal_text::{fault_of, placed_text};
 use crate::table::Entry;
-use ila_base::{NetRefusal, Place};
+use ila_base::NetRefusal;
 use std::alloc::Global;
 use vlog_lex::{Token, tokens};
 
@@ -47,14 +47,6 @@ fn write_fronts(
         }
     }
     Ok(())
-}
-
-fn place_behind(text: &[u8]) -> Place {
-    let mut place = Place { line: 1, col: 1 };
-    for byte in text {
-        place = behind(place, *byte);
-    }
-    place
 }
 
 fn is_refused_behind(alloc: Global, front: &[u8]) -> Result<bool, Fault> {

@@ -12,6 +12,7 @@ mod flat_text;
 mod fronts;
 mod kind;
 mod line;
+mod marked;
 mod outcome;
 mod reader;
 mod refusal_text;

@@ -1,8 +1,7 @@
 use crate::fault::Fault;
 use crate::line::Line;
-use ila_base::{Name, NetRefusal};
+use ila_base::{Name, NetFault, NetRefusal, NetStop};
 use std::alloc::Global;
-use vlog_lex::{NetFault, NetStop};
 
 /// The fault with which a text is refused.
 pub fn fault_of(stop: NetStop) -> Result<NetFault, Fault> {

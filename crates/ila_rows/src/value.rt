@@ -3,13 +3,12 @@
 //! next one.
 
 use crate::fault::Fault;
+use ila_base::bytes::digit_value;
 use std::alloc::Global;
 
 fn digit(byte: u8) -> Option<u8> {
-    match byte {
-        b'0'..=b'9' => Some(byte - b'0'),
-        b'a'..=b'f' => Some(byte - b'a' + 10),
-        b'A'..=b'F' => Some(byte - b'A' + 10),
+    match digit_value(byte) {
+        value @ 0..=15 => Some(value),
         _ => None,
     }
 }
