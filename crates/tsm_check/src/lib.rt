@@ -1,0 +1,13 @@
+//! Trigger programs: when their conditions are true, which branch they take, and what it does
+//! (UG908, trigger state machine language).
+#![tactic(auto)]
+
+mod laws;
+mod simple;
+mod stepping;
+mod truth;
+pub mod types;
+
+pub use laws::{basic_steps, idle_steps};
+pub use simple::{basic_program, idle_program};
+pub use stepping::step;
