@@ -93,7 +93,7 @@ pub place_further : {X : Type 0} (p : X → Bool) (xs : List X) (i n : ℕ) (d :
     → i + first_place p (drop i xs) ≡ n → i + 1 + first_place p (drop (i + 1) xs) ≡ n
 place_further p xs i n d low fails is =
     let one : first_place p (drop i xs) ≡ suc (first_place p (drop (i + 1) xs)) =
-        at_drop_more (first_place p) xs i d low ∙ ap (λ b. if b then zero else suc (first_place p (drop (i + 1) xs))) fails in
+    at_drop_more (first_place p) xs i d low ∙ ap (λ b. if b then zero else suc (first_place p (drop (i + 1) xs))) fails in
     let sum : i + 1 + first_place p (drop (i + 1) xs) ≡ i + first_place p (drop i xs) = omega (arith, one) in
     sum ∙ is
 
@@ -101,7 +101,7 @@ pub place_here : {X : Type 0} (p : X → Bool) (xs : List X) (i n : ℕ) (d : X)
     → i + first_place p (drop i xs) ≡ n → i ≡ n
 place_here p xs i n d low holds is =
     let one : first_place p (drop i xs) ≡ 0 =
-        at_drop_more (first_place p) xs i d low ∙ ap (λ b. if b then zero else suc (first_place p (drop (i + 1) xs))) holds in
+    at_drop_more (first_place p) xs i d low ∙ ap (λ b. if b then zero else suc (first_place p (drop (i + 1) xs))) holds in
     omega (arith, one, is)
 
 pub place_none : {X : Type 0} (p : X → Bool) (xs ys : List X) (i n : ℕ) → xs ≡ ys → length xs ≤ i → i ≤ length xs

@@ -1,5 +1,5 @@
 -- What the programs do that are made without a text.
-use Rattle.std.proofs.Common.{◌≡◌, refl, sym, ◌∙◌, ap, ℕ, zero, suc, ◌+◌, ◌*◌, ◌/◌, ◌%◌, ◌^◌, ◌<◌, ◌≤◌, Bool, true, false, List, [], ◌∷◌, length, map, arith, Some}
+use Rattle.std.proofs.Common.{◌≡◌, refl, sym, ◌∙◌, ap, ℕ, zero, suc, ◌/◌, ◌%◌, ◌<◌, Bool, true, false, List, [], ◌∷◌, length, map, arith}
 use Rattle.std.specs.Prelude.{◌&&◌, ◌||◌, ◌==◌, not, if◌then◌else◌, slice_index, slice_get}
 use Rattle.std.specs.List.{list_all, list_any}
 use Rattle.std.specs.Option.{option_and_then}
@@ -7,13 +7,11 @@ use Rattle.ila_base.specs.declared.compare.BasicCond.{BasicCond}
 use Rattle.ila_base.specs.declared.compare.Compare.{Compare}
 use Rattle.ila_base.specs.declared.compare.Join.{Join}
 use Rattle.ila_base.specs.declared.compare.Join.TheVariants.{And, Or, Nand, Nor}
-use Rattle.ila_base.specs.Comparison.{bit_at, is_true, differ, joined, condition_holds}
+use Rattle.ila_base.specs.Comparison.{is_true, differ, joined, condition_holds}
 use Rattle.tsm_check.specs.declared.types.Config.{Config}
-use Rattle.tsm_check.specs.declared.types.Formula.{Formula}
 use Rattle.tsm_check.specs.declared.types.Formula.TheVariants.{Probe}
-use Rattle.tsm_check.specs.declared.types.State.{State}
 use Rattle.tsm_check.specs.Simple.{plain_branch, formula_of, is_negated, cond_of, basic_program, idle_program}
-use Rattle.tsm_check.specs.Steps.{registers, counter_after, flag_after, flags_after, after, taken, branch_of, reference_step}
+use Rattle.tsm_check.specs.Steps.{registers, flags_after, after, taken, branch_of, reference_step}
 use Rattle.tsm_check.specs.Truth.{Test, truth, is_met, cond_true}
 use Rattle.tsm_check.proofs.FormulaLaws.{truth-Probe, truth-All, truth-Any}
 
@@ -46,10 +44,10 @@ flags_stay trigger flags low =
 -- a plain branch leaves the configuration as it is
 kept : (trigger : Bool) (config : Config) → config.state ≡ 0 → length config.counters ≡ 4 → config.flags < 16 → after (plain_branch trigger) config ≡ config
 kept trigger config first long low = λ i. record {
-    state = sym first i;
-    counters = four_stay config.counters long i;
-    flags = flags_stay trigger config.flags low i;
-  }
+  state = sym first i;
+  counters = four_stay config.counters long i;
+  flags = flags_stay trigger config.flags low i;
+}
 
 all_probes : (is : Test → Bool) (p : Compare → Bool) → ((c : Compare) → truth is (Probe c) ≡ p c) → (cs : List Compare) → list_all (truth is) (map Probe cs) ≡ list_all p cs
 all_probes is p each [] = refl
@@ -89,7 +87,7 @@ pub basic_steps : (basic : BasicCond) (before now : List ℕ) (config : Config) 
 basic_steps basic before now config first long low =
     ap (λ n. taken (option_and_then (branch_of (is_met before now config.counters)) (slice_get (basic_program basic).states n)) config) first
     ∙ by_truth config (condition_holds basic before now) (cond_true (is_met before now config.counters) (cond_of basic))
-        (by_join basic.join before now config.counters basic.compares) first long low
+    (by_join basic.join before now config.counters basic.compares) first long low
 
 pub idle_steps : (before now : List ℕ) (config : Config) → config.state ≡ 0 → length config.counters ≡ 4 → config.flags < 16
     → reference_step idle_program before now config ≡ (config, false)

@@ -1,5 +1,5 @@
 -- The programs that are made without a text: that of a basic condition, and the idle one (UG908, basic trigger mode).
-use Rattle.std.specs.Prelude.{ℕ, Bool, true, false, List, [], ◌∷◌, map}
+use Rattle.std.specs.Prelude.{Bool, true, false, List, [], ◌∷◌, map}
 use Rattle.ila_base.specs.declared.compare.BasicCond.{BasicCond}
 use Rattle.ila_base.specs.declared.compare.Compare.{Compare}
 use Rattle.ila_base.specs.declared.compare.Join.{Join}

@@ -1,5 +1,5 @@
 -- The reference step: what a program does at a clock (UG908, trigger state machine language).
-use Rattle.std.specs.Prelude.{ℕ, zero, suc, ◌+◌, ◌*◌, ◌%◌, ◌^◌, Bool, true, false, not, ◌&&◌, ◌||◌, List, [], ◌∷◌, map, if◌then◌else◌, Option, Some, None, slice_index, slice_get}
+use Rattle.std.specs.Prelude.{ℕ, zero, suc, ◌+◌, ◌*◌, ◌%◌, ◌^◌, Bool, false, not, ◌&&◌, ◌||◌, List, [], ◌∷◌, map, if◌then◌else◌, Option, Some, None, slice_index, slice_get}
 use Rattle.std.specs.Option.{option_and_then}
 use Rattle.ila_base.specs.Comparison.{bit_at}
 use Rattle.tsm_check.specs.declared.types.Branch.{Branch}
@@ -33,10 +33,10 @@ flags_after branch flags = number_of (map (flag_after branch flags) registers)
 -- the configuration that a branch leaves
 abbrev pub after : Branch → Config → Config
 after branch config = record {
-    state = branch.next;
-    counters = map (counter_after branch config.counters) registers;
-    flags = flags_after branch config.flags;
-  }
+  state = branch.next;
+  counters = map (counter_after branch config.counters) registers;
+  flags = flags_after branch config.flags;
+}
 
 -- the place of the first element that passes, or how many there are where none does
 abbrev pub first_place : {X : Type 0} → (X → Bool) → List X → ℕ

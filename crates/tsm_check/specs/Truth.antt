@@ -1,7 +1,6 @@
 -- When a condition of a trigger program is true (UG908, trigger state machine language).
-use Rattle.std.specs.Prelude.{ℕ, Bool, true, false, not, ◌&&◌, List, [], ◌∷◌, map, slice_index}
+use Rattle.std.specs.Prelude.{ℕ, Bool, List, slice_index}
 use Rattle.std.specs.List.{list_all, list_any}
-use Rattle.ila_base.specs.declared.compare.BasicCond.{BasicCond}
 use Rattle.ila_base.specs.declared.compare.Compare.{Compare}
 use Rattle.ila_base.specs.Comparison.{differ, is_true, compares}
 use Rattle.tsm_check.specs.declared.types.Cond.{Cond}

@@ -1,11 +1,10 @@
 -- Which programs are valid over a list of probes (UG908, trigger state machine language).
 use Rattle.std.specs.Prelude.{◌≡◌, ℕ, ◌+◌, ◌<◌, ◌≤◌, Bool, true, false, ◌&&◌, ◌==◌, nat_lt, nat_le, List, [], ◌∷◌, length, All, slice_index}
-use Rattle.std.specs.List.{list_all, list_any}
+use Rattle.std.specs.List.{list_all}
 use Rattle.ila_base.specs.declared.compare.Compare.{Compare}
 use Rattle.ila_base.specs.declared.limits.TheConstants.{CONSTANT_BITS, CONDITIONS}
 use Rattle.ila_base.specs.Comparison.{allows, bit_at}
 use Rattle.tsm_check.specs.declared.types.Branch.{Branch}
-use Rattle.tsm_check.specs.declared.types.Cond.{Cond}
 use Rattle.tsm_check.specs.declared.types.Formula.{Formula, fold-Formula}
 use Rattle.tsm_check.specs.declared.types.Formula.TheOpen as layer
 use Rattle.tsm_check.specs.declared.types.Program.{Program}

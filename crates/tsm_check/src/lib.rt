@@ -5,6 +5,8 @@
 mod laws;
 mod simple;
 mod stepping;
+#[cfg(test)]
+mod tests;
 mod truth;
 pub mod types;
 

@@ -1,4 +1,4 @@
-use Rattle.std.proofs.Common.{◌≡◌, refl, sym, ◌∙◌, ap, rules}
+use Rattle.std.proofs.Common.{rules}
 use Rattle.tsm_check.specs.declared.types.Formula.{the_lemmas}
 use Rattle.tsm_check.specs.Truth.{is_met}
 use Rattle.tsm_check.specs.Validity.{is_short}

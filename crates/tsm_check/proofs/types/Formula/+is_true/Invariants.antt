@@ -1,8 +1,6 @@
-use Rattle.std.proofs.Common.{◌≡◌, true, drop, map}
-use Rattle.std.specs.Prelude.{Bool}
+use Rattle.std.proofs.Common.{◌≡◌, drop}
 use Rattle.std.specs.List.{list_all, list_any}
 use Rattle.tsm_check.specs.Truth.{truth, is_met}
-use Rattle.tsm_check.specs.Validity.{is_short, passes}
 use Rattle.tsm_check.proofs.types.Formula.+is_true.Given as goal
 
 abbrev pub decreases-is_true : goal.decreases-is_true
