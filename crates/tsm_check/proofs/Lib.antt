@@ -1,2 +1,3 @@
 pub mod FormulaLaws
 pub mod SimpleLaws
+pub mod ShortLaws

@@ -1,9 +1,10 @@
 -- The programs that are made without a text: that of a basic condition, and the idle one (UG908, basic trigger mode).
-use Rattle.std.specs.Prelude.{Bool, true, false, List, [], ◌∷◌, map}
+use Rattle.std.specs.Prelude.{◌<◌, Bool, true, false, List, [], ◌∷◌, length, map, All as AllOf}
 use Rattle.ila_base.specs.declared.compare.BasicCond.{BasicCond}
 use Rattle.ila_base.specs.declared.compare.Compare.{Compare}
 use Rattle.ila_base.specs.declared.compare.Join.{Join}
 use Rattle.ila_base.specs.declared.compare.Join.TheVariants.{And, Or, Nand, Nor}
+use Rattle.ila_base.specs.Comparison.{IsShort}
 use Rattle.tsm_check.specs.declared.types.Branch.{Branch}
 use Rattle.tsm_check.specs.declared.types.Cond.{Cond}
 use Rattle.tsm_check.specs.declared.types.Formula.{Formula}
@@ -42,3 +43,7 @@ basic_program basic = one_state (cond_of basic ∷ []) (plain_branch true ∷ pl
 -- The idle program: one state, that goes to itself.
 abbrev pub idle_program : Program
 idle_program = one_state [] (plain_branch false ∷ [])
+
+-- it has a comparison, and none has more digits than a probe has bits
+abbrev pub IsShortCondition : BasicCond → Type 0
+IsShortCondition basic = (0 < length basic.compares) × AllOf IsShort basic.compares

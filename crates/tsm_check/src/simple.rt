@@ -3,6 +3,7 @@
 ghost use Rattle.std.specs.Prelude.{◌≡◌, map, IfOk, [], ◌∷◌};
 ghost use Rattle.tsm_check.specs.declared.types.Formula.TheVariants.{Probe};
 ghost use Rattle.tsm_check.specs.Simple as simple;
+ghost use Rattle.tsm_check.specs.Validity.{IsShortProgram};
 
 use crate::types::{Branch, Cond, Formula, Program, State};
 use ila_base::{BasicCond, Compare, Digits, Items, Join, Name, NoMemory};
@@ -87,8 +88,11 @@ fn cond_of(alloc: Global, basic: &BasicCond) -> Result<Cond, NoMemory>
 /// The program of a basic condition (UG908, basic trigger mode): one state without a name, that
 /// triggers where the condition is true and else stays. It triggers exactly there and keeps the
 /// configuration (`basic_steps`).
+#[tactic(auto, using(crate::proofs::ShortLaws::basic_short))]
 pub fn basic_program(alloc: Global, basic: &BasicCond) -> Result<Program, NoMemory>
-    ensures { IfOk result (λ program. program ≡ simple.basic_program basic.now) }
+    ensures value { IfOk result (λ program. program ≡ simple.basic_program basic.now) }
+    // It is as `step` asks, where its condition is.
+    ensures short { simple.IsShortCondition basic.now → IfOk result IsShortProgram }
 {
     let mut conds = Items::new(alloc);
     conds.push(cond_of(alloc, basic)?)?;
@@ -98,7 +102,8 @@ pub fn basic_program(alloc: Global, basic: &BasicCond) -> Result<Program, NoMemo
 /// The program of one state without a name that goes to itself. It keeps the configuration and never
 /// triggers (`idle_steps`).
 pub fn idle_program(alloc: Global) -> Result<Program, NoMemory>
-    ensures { IfOk result (λ program. program ≡ simple.idle_program) }
+    ensures value { IfOk result (λ program. program ≡ simple.idle_program) }
+    ensures short { IfOk result IsShortProgram }
 {
     one_state(alloc, Items::new(alloc), &[plain_branch(false)])
 }
