@@ -10,6 +10,6 @@ mod tests;
 mod truth;
 pub mod types;
 
-pub use laws::{basic_steps, idle_steps};
+pub use laws::{basic_is_valid, basic_steps, idle_is_valid, idle_steps, valid_steps};
 pub use simple::{basic_program, idle_program};
 pub use stepping::step;

@@ -2,7 +2,10 @@ ghost use Rattle.std.specs.Prelude.{◌≤◌, length, IfOk};
 ghost use Rattle.tsm_check.specs.Simple.{IsShortCondition};
 
 use crate::types::{Branch, Config, Program, State};
-use crate::{basic_program, basic_steps, idle_program, idle_steps, step};
+use crate::{
+    basic_is_valid, basic_program, basic_steps, idle_is_valid, idle_program, idle_steps, step,
+    valid_steps,
+};
 use ila_base::{BasicCond, Compare, Digit, Digits, Items, Join, Name, NoMemory, Op};
 use std::alloc::Global;
 use std::process::Abort;
@@ -58,6 +61,8 @@ fn after(alloc: Global, branch: Branch, config: Config) -> Result<Config, NoMemo
 #[test]
 fn idles(rt: HostRuntime) -> Result<(), Fail> {
     idle_steps();
+    idle_is_valid();
+    valid_steps();
     let program = idle_program(rt.alloc())?;
     let (config, triggers) = step(&program, START, &[], &[]);
     assert_eq!(&rt; config, START);
@@ -101,6 +106,7 @@ fn acts_on_counters_and_flags(rt: HostRuntime) -> Result<(), Fail> {
 #[test]
 fn triggers_where_the_condition_holds(rt: HostRuntime) -> Result<(), Fail> {
     basic_steps();
+    basic_is_valid();
     let rows = [
         (Join::And, Op::Eq, [Digit::One, Digit::Zero], 0, 1, true),
         (Join::And, Op::Eq, [Digit::One, Digit::Zero], 0, 2, false),
