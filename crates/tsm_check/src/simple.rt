@@ -1,6 +1,6 @@
 //! Programs that are made without a text.
 
-ghost use Rattle.std.specs.Prelude.{◌≡◌, map, IfOk, [], ◌∷◌};
+ghost use Rattle.std.specs.Prelude.{◌≡◌, map, IfOk};
 ghost use Rattle.tsm_check.specs.declared.types.Formula.TheVariants.{Probe};
 ghost use Rattle.tsm_check.specs.Simple as simple;
 ghost use Rattle.tsm_check.specs.Validity.{IsShortProgram};

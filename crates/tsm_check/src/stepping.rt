@@ -1,7 +1,6 @@
 //! The step of a program.
 
-ghost use Rattle.std.specs.Prelude.{◌≡◌, ◌<◌, ◌≤◌, length, if◌then◌else◌};
-ghost use Rattle.std.specs.Option.{option_copied};
+ghost use Rattle.std.specs.Prelude.{◌≡◌, ◌<◌, ◌≤◌, if◌then◌else◌};
 ghost use Rattle.ila_base.specs.Comparison.{bit_at};
 ghost use Rattle.tsm_check.specs.Steps as steps;
 ghost use Rattle.tsm_check.specs.Truth.{is_met, cond_true};

@@ -1,6 +1,6 @@
 //! When conditions are true.
 
-ghost use Rattle.std.specs.Prelude.{◌≡◌, true, length, slice_index};
+ghost use Rattle.std.specs.Prelude.{◌≡◌, true, slice_index};
 ghost use Rattle.ila_base.specs.Comparison as comparison;
 ghost use Rattle.tsm_check.specs.Truth.{OfProbe, OfCounter, truth, is_met, cond_true};
 ghost use Rattle.tsm_check.specs.Validity.{is_short, passes};
