@@ -1,0 +1,4 @@
+pub mod FormulaLaws
+pub mod SimpleLaws
+pub mod ShortLaws
+pub mod ValidLaws

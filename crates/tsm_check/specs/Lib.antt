@@ -1,0 +1,4 @@
+pub mod Truth
+pub mod Steps
+pub mod Validity
+pub mod Simple
