@@ -22,28 +22,74 @@ const ROOM: usize = 65536;
 /// Calls the program as a row says, and gives the trace, the error line, the exit status and the files
 /// that the row asks for.
 pub fn command(alloc: Global, entry: &Entry<'_>, outcome: &mut Outcome) -> Result<(), Fault> {
-    let mut shelf = MemShelf::new(files(alloc, entry)?, entry.numbers(alloc, "fails shelf")?);
-    let mut stimulus = source(alloc, entry)?;
-    let piece = entry.number("writes", WRITE)?.max(1);
-    let write_fails = entry.numbers(alloc, "fails writes")?;
-    let mut trace = MemSink::new(alloc, piece, ROOM, write_fails)?;
-    let mut errors = MemSink::new(alloc, LINE_WRITE, ROOM, Vec::new(alloc))?;
-    let words = words(alloc, entry)?;
-    let status = ila(
-        alloc,
-        words.as_slice(),
-        &mut shelf,
-        &mut stimulus,
-        &mut trace,
-        &mut errors,
-    );
-    let mut exit = Line::new(alloc);
-    exit.number(u64::from(exit_code(&status)))?;
-    outcome.push("exit", exit.into_bytes())?;
-    outcome.push_copy("trace", trace.bytes())?;
-    outcome.push_copy("line", errors.bytes())?;
+    let mut shelf = shelf(alloc, entry)?;
+    let mut trace = trace(alloc, entry)?;
+    call(alloc, entry, &mut shelf, &mut trace, outcome)?;
     give_files(&shelf, entry.fields, outcome)?;
     give_files(&shelf, entry.common, outcome)
+}
+
+// Calls the program over this shelf and this trace, and gives the exit status, the trace and the
+// error line.
+fn call(
+    alloc: Global,
+    entry: &Entry<'_>,
+    shelf: &mut MemShelf,
+    trace: &mut MemSink,
+    outcome: &mut Outcome,
+) -> Result<(), Fault> {
+    let mut errors = MemSink::new(alloc, LINE_WRITE, ROOM, Vec::new(alloc))?;
+    let exit = exit(alloc, entry, shelf, trace, &mut errors)?;
+    push_number(alloc, "exit", exit, outcome)?;
+    outcome.push_copy("trace", trace.bytes())?;
+    outcome.push_copy("line", errors.bytes())
+}
+
+// Calls the program with the words and the stimulus of a row, and gives its exit status.
+fn exit(
+    alloc: Global,
+    entry: &Entry<'_>,
+    shelf: &mut MemShelf,
+    trace: &mut MemSink,
+    errors: &mut MemSink,
+) -> Result<u8, Fault> {
+    let words = words(alloc, entry)?;
+    let mut stimulus = source(alloc, entry)?;
+    Ok(ended(alloc, words.as_slice(), shelf, &mut stimulus, trace, errors))
+}
+
+// The exit status of the program.
+fn ended(
+    alloc: Global,
+    words: &[String],
+    shelf: &mut MemShelf,
+    stimulus: &mut MemSource,
+    trace: &mut MemSink,
+    errors: &mut MemSink,
+) -> u8 {
+    let status = ila(alloc, words, shelf, stimulus, trace, errors);
+    exit_code(&status)
+}
+
+// Gives a number under a key.
+fn push_number(alloc: Global, key: &str, number: u8, outcome: &mut Outcome) -> Result<(), Fault> {
+    let mut line = Line::new(alloc);
+    line.number(u64::from(number))?;
+    outcome.push(key, line.into_bytes())
+}
+
+// The shelf of a row.
+fn shelf(alloc: Global, entry: &Entry<'_>) -> Result<MemShelf, Fault> {
+    let files = files(alloc, entry)?;
+    let fails = entry.numbers(alloc, "fails shelf")?;
+    Ok(MemShelf::new(files, fails))
+}
+
+// The trace of a row, empty.
+fn trace(alloc: Global, entry: &Entry<'_>) -> Result<MemSink, Fault> {
+    let piece = entry.number("writes", WRITE)?.max(1);
+    let fails = entry.numbers(alloc, "fails writes")?;
+    Ok(MemSink::new(alloc, piece, ROOM, fails)?)
 }
 
 /// The stimulus of a row, in its pieces, with the reads that fail.
