@@ -4,5 +4,6 @@
 
 pub mod calls;
 mod depends;
+pub mod laws;
 mod sources;
 pub mod types;
