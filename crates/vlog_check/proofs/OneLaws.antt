@@ -20,7 +20,7 @@ use Rattle.vlog_check.specs.declared.found.Detail.TheVariants.{Alone, Parameter,
 use Rattle.vlog_check.specs.declared.found.Found.{Found}
 use Rattle.vlog_check.specs.Found.{number_of, detail_of, key_of, NoLater, IsLeastFinding}
 use Rattle.vlog_check.specs.Checked.{Finds, IsChecked, IsRecursive, IsFirstRecursive, IsRefused, found, no_top, recursion}
-use Rattle.vlog_check.specs.Places.{StandsAt, HasOwnPlaces}
+use Rattle.vlog_parse.specs.Places.{StandsAt, HasOwnPlaces}
 use Rattle.vlog_check.proofs.ToldLaws.{IsToldAt, stands, told_same}
 use Rattle.vlog_check.proofs.TellingLaws.{told}
 

@@ -12,14 +12,14 @@ use Rattle.vlog_parse.specs.declared.tree.Expr.{Expr, fold-roll-Expr}
 use Rattle.vlog_parse.specs.declared.tree.Expr.TheVariants.{Concat, rolls-Concat}
 use Rattle.vlog_parse.specs.declared.tree.Expr.TheOpen as layer
 use Rattle.vlog_parse.specs.declared.tree.Module.{Module}
-use Rattle.vlog_parse.specs.Leaves.{Leaf, leaves, leaves_at}
+use Rattle.vlog_parse.specs.Leaves.{Leaf, leaves, leaves_at, leaf_place}
 use Rattle.vlog_check.specs.declared.expr.Reading.{Reading}
 use Rattle.vlog_check.specs.declared.found.Detail.TheVariants.{Alone}
 use Rattle.vlog_check.specs.declared.found.Found.{Found}
 use Rattle.vlog_check.specs.Found.{IsLeastFinding, FindsAmong, earlier}
 use Rattle.vlog_check.specs.FindingWidths.{FindsLeaf, finding}
 use Rattle.vlog_check.specs.Names.{IsReading, head_place, joined}
-use Rattle.vlog_check.specs.Scope.{leaf_width, width_of, is_declared, is_fixed, leaf_place, leaf_text}
+use Rattle.vlog_check.specs.Scope.{leaf_width, width_of, is_declared, is_fixed, leaf_text}
 use Rattle.vlog_check.proofs.LeastLaws.{least_as, least_both, least_where, least_unless}
 
 -- Leaves

@@ -16,18 +16,18 @@ use Rattle.vlog_parse.specs.declared.tree.Value.{Value}
 use Rattle.vlog_parse.specs.declared.tree.Conns.{Conns}
 use Rattle.vlog_parse.specs.declared.tree.Conns.TheVariants.{ByName, ByPlace}
 use Rattle.vlog_parse.specs.declared.tree.Expr.{Expr}
-use Rattle.vlog_parse.specs.Leaves.{Leaf, leaves}
+use Rattle.vlog_parse.specs.Leaves.{Leaf, leaves, leaf_place}
 use Rattle.vlog_check.specs.declared.found.Detail.{Detail}
 use Rattle.vlog_check.specs.declared.found.Detail.TheVariants.{Alone, Parameter, Connection, NoParameter, NoPin}
 use Rattle.vlog_check.specs.declared.found.Found.{Found}
 use Rattle.vlog_check.specs.declared.kind.Pin.{Pin}
 use Rattle.vlog_check.specs.Found.{number_of, detail_of, FindsAmong, FindsIf}
-use Rattle.vlog_check.specs.Scope.{Kind, OfCell, OfModule, kind_of, pin_of, pin_names, leaf_place, first_place, place_of, width_of}
+use Rattle.vlog_check.specs.Scope.{Kind, OfCell, OfModule, kind_of, pin_of, pin_names, first_place, place_of, width_of}
 use Rattle.vlog_check.specs.FindingNames.{FindsModule, FindsSecond, FindsOutside, at_place, is_placed_again}
 use Rattle.vlog_check.specs.FindingWidths.{finding, FindsUndeclared, FindsWidth, FindsInAssign, FindsInGate, target_width}
 use Rattle.vlog_check.specs.FindingPins.{FindsUnknown, FindsInKind, FindsInInst, FindsConnected, FindsConnection, FindsPlaced, FindsPositions, FindsInConns, FindsInExprs, port_at}
 use Rattle.vlog_check.specs.Checked.{Finds, FindsWithin, FindsInHeader, FindsInModule}
-use Rattle.vlog_check.specs.Places.{AtModule, AtItem, AtLeaf, item_place, expr_at, conn_expr, HasOwnPlaces}
+use Rattle.vlog_parse.specs.Places.{AtModule, AtItem, AtLeaf, item_place, expr_at, conn_expr, HasOwnPlaces}
 use Rattle.vlog_check.proofs.ToldLaws.{IsTold, in_module, in_item, in_leaf, told_item, told_leaf, wanted, conn_name, conn_pin}
 
 module _ (tree : Tree) (own : HasOwnPlaces tree) (k : ℕ) (m : ModuleOf) (at : slice_get tree.modules k ≡ Some m) (f : Found) where

@@ -13,14 +13,14 @@ use Rattle.vlog_parse.specs.declared.tree.Value.{Value}
 use Rattle.vlog_parse.specs.declared.tree.Conns.{Conns}
 use Rattle.vlog_parse.specs.declared.tree.Conns.TheVariants.{ByName, ByPlace}
 use Rattle.vlog_parse.specs.declared.tree.Expr.{Expr}
-use Rattle.vlog_parse.specs.Leaves.{Leaf, leaves}
+use Rattle.vlog_parse.specs.Leaves.{Leaf, leaves, leaf_place}
 use Rattle.vlog_check.specs.declared.found.Found.{Found}
 use Rattle.vlog_check.specs.declared.kind.Pin.{Pin}
 use Rattle.vlog_check.specs.Found.{number_of, detail_of}
-use Rattle.vlog_check.specs.Scope.{kind_of, pin_of, pin_names, leaf_place, leaf_text, width_of}
+use Rattle.vlog_check.specs.Scope.{kind_of, pin_of, pin_names, leaf_text, width_of}
 use Rattle.vlog_check.specs.FindingWidths.{target_width, gate_word}
 use Rattle.vlog_check.specs.FindingPins.{port_at}
-use Rattle.vlog_check.specs.Places.{Site, AtModule, AtItem, AtLeaf, StandsAt, module_name, item_name, leaf, item_place, expr_at}
+use Rattle.vlog_parse.specs.Places.{Site, AtModule, AtItem, AtLeaf, StandsAt, module_name, item_name, leaf, item_place, expr_at}
 
 -- What is told
 

@@ -8,12 +8,12 @@ use Rattle.vlog_parse.specs.declared.tree.Gate.{Gate}
 use Rattle.vlog_parse.specs.declared.tree.GateKind.{GateKind}
 use Rattle.vlog_parse.specs.declared.tree.GateKind.TheVariants.{And, Nand, Or, Nor, Xor, Xnor, Buf, Not}
 use Rattle.vlog_parse.specs.declared.tree.Expr.{Expr}
-use Rattle.vlog_parse.specs.Leaves.{Leaf, leaves}
+use Rattle.vlog_parse.specs.Leaves.{Leaf, leaves, leaf_place}
 use Rattle.vlog_check.specs.declared.found.Detail.{Detail}
 use Rattle.vlog_check.specs.declared.found.Detail.TheVariants.{Alone, Connection, NoPin}
 use Rattle.vlog_check.specs.declared.found.Found.{Found}
 use Rattle.vlog_check.specs.Found.{FindsAmong, FindsIf}
-use Rattle.vlog_check.specs.Scope.{is_declared, is_sound, width_of, place_of, leaf_place, leaf_text, has_constant}
+use Rattle.vlog_check.specs.Scope.{is_declared, is_sound, width_of, place_of, leaf_text, has_constant}
 
 abbrev pub finding : Place → Detail → NetRefusal → Found
 finding place detail refusal = record { place = place; subject = 0; detail = detail; refusal = refusal }

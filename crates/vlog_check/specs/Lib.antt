@@ -11,4 +11,3 @@ pub mod Given
 pub mod Design
 pub mod CellRows
 pub mod Contained
-pub mod Places

@@ -5,13 +5,13 @@ use Rattle.std.specs.Option.{option_or, option_map_or}
 use Rattle.ila_base.specs.declared.place.Place.{Place}
 use Rattle.vlog_parse.specs.declared.tree.Module.{Module}
 use Rattle.vlog_parse.specs.declared.tree.Expr.{Expr}
-use Rattle.vlog_parse.specs.Leaves.{Leaf, leaves}
+use Rattle.vlog_parse.specs.Leaves.{Leaf, leaves, leaf_place}
 use Rattle.vlog_parse.specs.declared.tree.Item.{Item}
 use Rattle.vlog_check.specs.declared.names.Names.{Names}
 use Rattle.vlog_check.specs.declared.names.Past.{Past}
 use Rattle.vlog_check.specs.declared.expr.Reading.{Reading}
 use Rattle.vlog_check.specs.Found.{IsLeastFinding, FindsAmong, earlier}
-use Rattle.vlog_check.specs.Scope.{is_input, direction_of, value_of, number_among, declared, directed, wired, placed, range_of, leaf_width, width_of, is_declared, is_fixed, leaf_place}
+use Rattle.vlog_check.specs.Scope.{is_input, direction_of, value_of, number_among, declared, directed, wired, placed, range_of, leaf_width, width_of, is_declared, is_fixed}
 use Rattle.vlog_check.specs.FindingWidths.{FindsLeaf}
 
 -- the table has the number of each of the names

@@ -16,7 +16,7 @@ use Rattle.vlog_parse.specs.declared.tree.Inst.{Inst}
 use Rattle.vlog_parse.specs.declared.tree.Conns.{Conns}
 use Rattle.vlog_parse.specs.declared.tree.Conns.TheVariants.{ByName, ByPlace}
 use Rattle.vlog_parse.specs.declared.tree.Expr.{Expr}
-use Rattle.vlog_parse.specs.Leaves.{Leaf, Net, Bit, Part, Fixed, leaves}
+use Rattle.vlog_parse.specs.Leaves.{Leaf, Net, Bit, Part, Fixed, leaves, leaf_place}
 use Rattle.vlog_check.specs.declared.kind.Pin.{Pin}
 use Rattle.vlog_check.specs.declared.names.Port.{Port}
 use Rattle.vlog_check.specs.declared.primitive.Primitive.{Primitive}
@@ -159,12 +159,6 @@ is_fixed (Fixed word place) = true
 
 abbrev pub has_constant : Expr → Bool
 has_constant e = list_any is_fixed (leaves e)
-
-abbrev pub leaf_place : Leaf → Place
-leaf_place (Net name place) = place
-leaf_place (Bit name index place) = place
-leaf_place (Part name left right place) = place
-leaf_place (Fixed word place) = place
 
 -- the place of an expression: that of its first name or constant
 abbrev pub first_place : List Leaf → Place

@@ -24,6 +24,6 @@ mod width;
 
 pub use checked::{Checked, check};
 pub use expr::range_width;
-pub use laws::{one_finding, one_refusal, rows_agree};
+pub use laws::{one_finding, one_refusal, one_refusal_of_text, rows_agree};
 pub use primitive::{CellPin, Primitive, Size, cell_of, pins};
 pub use table::Table;

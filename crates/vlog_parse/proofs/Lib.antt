@@ -21,3 +21,9 @@ mod RefusalLaws
 mod PartLaws
 mod SkipLaws
 pub mod LeafLaws
+mod RisingLaws
+mod Standing
+mod ExpressionPlaces
+mod ItemPlaces
+mod DesignPlaces
+mod SiteLaws

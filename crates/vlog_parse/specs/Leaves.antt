@@ -24,3 +24,9 @@ leaves_at (layer.Concat parts) = flat_map (λ (part : List Leaf). part) parts
 -- the leaves of an expression, the most significant first
 abbrev pub leaves : Expr → List Leaf
 leaves e = fold-Expr (List Leaf) leaves_at e
+
+abbrev pub leaf_place : Leaf → Place
+leaf_place (Net name place) = place
+leaf_place (Bit name index place) = place
+leaf_place (Part name left right place) = place
+leaf_place (Fixed word place) = place

@@ -9,3 +9,4 @@ pub mod Limits
 pub mod Parsing
 pub mod Leaves
 pub mod ReadTree
+pub mod Places

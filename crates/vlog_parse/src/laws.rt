@@ -5,6 +5,7 @@ ghost use Rattle.vlog_lex.specs.Cutting.{IsReading};
 ghost use Rattle.vlog_parse.specs.declared.tree.Tree.{Tree as TreeOf};
 ghost use Rattle.vlog_parse.specs.Design.{IsDesign};
 ghost use Rattle.vlog_parse.specs.Parsing.{IsReadAs, IsRefusal};
+ghost use Rattle.vlog_parse.specs.Places.{HasOwnPlaces};
 ghost use Rattle.vlog_parse.specs.ReadTree.{IsReadTree};
 
 /// The tokens of a text stand for at most one tree.
@@ -23,4 +24,10 @@ pub fn one_refusal()
 /// their limit, and of nothing more than a text has bytes.
 pub fn read_trees()
     ensures { (text : List ℕ) (tokens : List TokenOf) (tree : TreeOf) → IsReading text tokens None → IsReadAs text tokens tree → IsReadTree tree }
+{}
+
+/// In the tree that a text stands for each module, item, name and constant has a place of its own.
+pub fn own_places()
+    ensures { (text : List ℕ) (tokens : List TokenOf) (tree : TreeOf) → IsReading text tokens None
+        → IsReadAs text tokens tree → HasOwnPlaces tree }
 {}

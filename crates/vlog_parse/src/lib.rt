@@ -24,6 +24,6 @@ mod source;
 mod tests;
 mod tree;
 
-pub use laws::{one_refusal, one_tree, read_trees};
+pub use laws::{one_refusal, one_tree, own_places, read_trees};
 pub use source::parse;
 pub use tree::{Conns, Decl, Dir, Expr, Gate, GateKind, Inst, Item, Module, Range, Tree, Value};

@@ -9,10 +9,9 @@ use Rattle.vlog_parse.specs.declared.tree.Expr.{Expr}
 use Rattle.vlog_parse.specs.declared.tree.Expr.TheVariants.{Whole, Bit, Part, Const, Concat}
 use Rattle.vlog_parse.specs.Lexemes.{Lexeme}
 use Rattle.vlog_parse.specs.Expressions.{is, mark, named, name, number, part_behind, bit_behind, select_behind, reference, constant_of, constant, operand, args, concatenation, expr_over, expr_within, expr}
-use Rattle.vlog_parse.specs.Leaves.{Leaf, Net as NetLeaf, Bit as BitLeaf, Part as PartLeaf, Fixed as FixedLeaf, leaves}
+use Rattle.vlog_parse.specs.Leaves.{Leaf, Net as NetLeaf, Bit as BitLeaf, Part as PartLeaf, Fixed as FixedLeaf, leaves, leaf_place}
 use Rattle.vlog_parse.proofs.LeafLaws.{leaves-Whole, leaves-Bit, leaves-Part, leaves-Const, leaves-Concat}
-use Rattle.vlog_check.specs.Scope.{leaf_place}
-use Rattle.vlog_places.proofs.Standing.{StandIn, more, pass, at_one, Told, Tells, any_tells, term_tells, pure_tells, then_tells, either_tells, list_tells, AreSome, Stands, anything}
+use Rattle.vlog_parse.proofs.Standing.{StandIn, more, pass, at_one, Told, Tells, any_tells, term_tells, pure_tells, then_tells, either_tells, list_tells, AreSome, Stands, anything}
 
 abbrev pub named_places : Named → List Place
 named_places n = n.place ∷ []

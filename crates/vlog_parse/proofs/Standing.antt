@@ -4,7 +4,7 @@ use Rattle.grammar.specs.Rule.{Rule, token, term, pure, ◌>>=◌, either, AreWo
 use Rattle.ila_base.specs.declared.place.Place.{Place}
 use Rattle.vlog_parse.specs.Lexemes.{Lexeme}
 use Rattle.vlog_parse.specs.Items.{place_of}
-use Rattle.vlog_places.proofs.RisingLaws.{RiseBehind, rise_before}
+use Rattle.vlog_parse.proofs.RisingLaws.{RiseBehind, rise_before}
 
 -- the places are those of some of the tokens, in their order
 pub data StandIn : List Place → List Lexeme → Type 0 where

@@ -1,4 +1,4 @@
-use Rattle.vlog_places.proofs.laws.one_refusal_of_text.Goals as goal
+use Rattle.vlog_check.proofs.laws.one_refusal_of_text.Goals as goal
 
 pub returns : goal.returns
 returns c = λ text tokens tree top fault other reading read first second.

@@ -19,9 +19,9 @@ use Rattle.vlog_parse.specs.Sorts.{is_direction, is_gate, begins_expr}
 use Rattle.vlog_parse.specs.Lexemes.{Lexeme}
 use Rattle.vlog_parse.specs.Expressions.{is, mark, name, args, expr}
 use Rattle.vlog_parse.specs.Items.{of_sort, direction, some_wire, some_range, net_of, port_items, net_items, pair, assign_items, gate, some_name, terminals_of, place_of, opened, terminals, gate_item, gate_items, params, some_expr, conn, conns_by_name, conns_by_place, conns, linked, inst_item, inst_items, item}
-use Rattle.vlog_check.specs.Places.{item_place}
-use Rattle.vlog_places.proofs.Standing.{StandIn, none, pass, more, both, at_one, Told, Tells, any_tells, term_tells, pure_tells, then_tells, either_tells, Each, IfAny, if_any, Stands, anything, optional_tells, list_tells, each_map, places_map, stands_map}
-use Rattle.vlog_places.proofs.ExpressionPlaces.{named_places, name_tells, leaf_places, HasLeaf, expr_tells, args_tells}
+use Rattle.vlog_parse.specs.Places.{item_place}
+use Rattle.vlog_parse.proofs.Standing.{StandIn, none, pass, more, both, at_one, Told, Tells, any_tells, term_tells, pure_tells, then_tells, either_tells, Each, IfAny, if_any, Stands, anything, optional_tells, list_tells, each_map, places_map, stands_map}
+use Rattle.vlog_parse.proofs.ExpressionPlaces.{named_places, name_tells, leaf_places, HasLeaf, expr_tells, args_tells}
 
 -- The expressions of an item by their numbers, with those that are open
 

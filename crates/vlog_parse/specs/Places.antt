@@ -8,8 +8,7 @@ use Rattle.vlog_parse.specs.declared.tree.Item.TheVariants.{Net, Assign, Gate, I
 use Rattle.vlog_parse.specs.declared.tree.Conns.{Conns}
 use Rattle.vlog_parse.specs.declared.tree.Conns.TheVariants.{ByName, ByPlace}
 use Rattle.vlog_parse.specs.declared.tree.Expr.{Expr}
-use Rattle.vlog_parse.specs.Leaves.{Leaf, leaves}
-use Rattle.vlog_check.specs.Scope.{leaf_place}
+use Rattle.vlog_parse.specs.Leaves.{Leaf, leaves, leaf_place}
 
 -- the place of an item's own name, or of a gate's bracket where it has none
 abbrev pub item_place : Item → Option Place

@@ -17,9 +17,9 @@ use Rattle.vlog_parse.specs.Lexemes.{Lexeme}
 use Rattle.vlog_parse.specs.Expressions.{is, mark, name, expr}
 use Rattle.vlog_parse.specs.Items.{of_sort, direction, some_wire, some_range, item}
 use Rattle.vlog_parse.specs.Design.{ansi, ansi_part, bare_part, next_part, declared_behind, carried, named_name, ansi_header, ansi_ports, plain_ports, no_header, some_ports, ports_list, header, joined, body, module_of, module_over, design}
-use Rattle.vlog_places.proofs.Standing.{StandIn, none, pass, more, both, Told, Tells, any_tells, pure_tells, then_tells, either_tells, Each, Stands, anything, repeat_tells, each_append, places_map}
-use Rattle.vlog_places.proofs.ExpressionPlaces.{name_tells}
-use Rattle.vlog_places.proofs.ItemPlaces.{item_places, IsGoodItem, items_fact, item_tells}
+use Rattle.vlog_parse.proofs.Standing.{StandIn, none, pass, more, both, Told, Tells, any_tells, pure_tells, then_tells, either_tells, Each, Stands, anything, repeat_tells, each_append, places_map}
+use Rattle.vlog_parse.proofs.ExpressionPlaces.{name_tells}
+use Rattle.vlog_parse.proofs.ItemPlaces.{item_places, IsGoodItem, items_fact, item_tells}
 
 -- Headers
 

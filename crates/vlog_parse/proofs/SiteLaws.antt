@@ -13,15 +13,14 @@ use Rattle.vlog_parse.specs.declared.tree.Item.{Item}
 use Rattle.vlog_parse.specs.declared.tree.Item.TheVariants.{Net, Assign, Gate, Inst}
 use Rattle.vlog_parse.specs.declared.tree.Module.{Module}
 use Rattle.vlog_parse.specs.declared.tree.Tree.{Tree}
-use Rattle.vlog_parse.specs.Leaves.{Leaf, leaves}
+use Rattle.vlog_parse.specs.Leaves.{Leaf, leaves, leaf_place}
 use Rattle.vlog_parse.specs.Lexemes.{lexemes}
 use Rattle.vlog_parse.specs.Parsing.{IsReadAs}
-use Rattle.vlog_check.specs.Scope.{leaf_place}
-use Rattle.vlog_check.specs.Places.{item_place, conn_expr, expr_at, Site, AtModule, AtItem, AtLeaf, StandsAt, module_name, item_name, leaf, HasOwnPlaces}
-use Rattle.vlog_places.proofs.RisingLaws.{IsBefore, not_before, RiseBehind, rise_before, places_rise}
-use Rattle.vlog_places.proofs.Standing.{rise_in, Each}
-use Rattle.vlog_places.proofs.ItemPlaces.{conn_slots, slots, slot_places, IsGoodSlot, own_place, item_places, IsGoodItem}
-use Rattle.vlog_places.proofs.DesignPlaces.{module_places, IsGoodModule, tree_places, IsGoodTree, design_tells}
+use Rattle.vlog_parse.specs.Places.{item_place, conn_expr, expr_at, Site, AtModule, AtItem, AtLeaf, StandsAt, module_name, item_name, leaf, HasOwnPlaces}
+use Rattle.vlog_parse.proofs.RisingLaws.{IsBefore, not_before, RiseBehind, rise_before, places_rise}
+use Rattle.vlog_parse.proofs.Standing.{rise_in, Each}
+use Rattle.vlog_parse.proofs.ItemPlaces.{conn_slots, slots, slot_places, IsGoodSlot, own_place, item_places, IsGoodItem}
+use Rattle.vlog_parse.proofs.DesignPlaces.{module_places, IsGoodModule, tree_places, IsGoodTree, design_tells}
 use Rattle.ila_base.specs.declared.place.TheConstants.Place.{NOWHERE}
 
 -- Lists made of numbered parts

@@ -1,6 +1,0 @@
-mod RisingLaws
-mod Standing
-mod ExpressionPlaces
-mod ItemPlaces
-mod DesignPlaces
-mod SiteLaws

@@ -1,5 +1,0 @@
-use Rattle.vlog_places.proofs.SiteLaws as laws
-use Rattle.vlog_places.proofs.laws.own_places.Goals as goal
-
-pub returns : goal.returns
-returns c = laws.own_places
