@@ -5,8 +5,8 @@ use Rattle.ila_base.specs.declared.refusal.LimitKind.{LimitKind}
 use Rattle.ila_base.specs.declared.refusal.LimitKind.TheVariants.{FileBytes, NameLength, Constant, Nesting, Index, Depth, Cells, Pins, Nets, AllNames}
 use Rattle.vlog_parse.specs.ReadTree.{In}
 use Rattle.elab_design.specs.Limits.{greatest}
-use Rattle.elab_scope.specs.declared.amounts.Count.{Count}
-use Rattle.elab_amounts.specs.Amounts.{count_of}
+use Rattle.elab_count.specs.declared.amounts.Count.{Count}
+use Rattle.elab_count.specs.Counting.{count_of}
 use Rattle.elab_flat.specs.declared.limits.Above.{Above}
 use Rattle.elab_flat.specs.Above.{IsAbove, IsFirstAbove}
 

@@ -16,8 +16,8 @@ use Rattle.elab_design.specs.DesignCells.{DesignCell}
 use Rattle.elab_design.specs.Order.{DesignGroup, FlatOrder}
 use Rattle.elab_design.specs.Raw.{IsRawOf}
 use Rattle.elab_design.specs.Limits.{HasClock, IsDeepest, amount, Counts, depth, unfolded, greatest, HasLimits, carried, IsElabFault, no_clock, above, unsettled}
-use Rattle.elab_scope.specs.declared.amounts.Count.{Count}
-use Rattle.elab_amounts.specs.Amounts.{count_of}
+use Rattle.elab_count.specs.declared.amounts.Count.{Count}
+use Rattle.elab_count.specs.Counting.{count_of}
 use Rattle.elab_unfold.specs.Parts.{IsWithin}
 use Rattle.elab_flat.specs.declared.limits.Above.{Above}
 use Rattle.elab_flat.specs.Above.{IsClockIn, kinds, IsAbove, IsFirstAbove, IsFaultBefore, IsUnsettled}

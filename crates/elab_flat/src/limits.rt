@@ -3,7 +3,7 @@
 ghost use Rattle.std.specs.Prelude.{◌≡◌, Some};
 ghost use Rattle.elab_flat.specs.Above.{IsFirstAbove};
 
-use elab_scope::Count;
+use elab_count::Count;
 use ila_base::LimitKind;
 
 /// A number that is above the limit of its kind.

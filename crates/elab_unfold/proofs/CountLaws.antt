@@ -17,10 +17,11 @@ use Rattle.elab_design.proofs.Lists.{in_none}
 use Rattle.elab_design.proofs.SoundLaws.{and_then_some, module_first}
 use Rattle.elab_design.proofs.ExistLaws.{module_there, below_more}
 use Rattle.elab_design.proofs.LeafLaws.{or_none}
-use Rattle.elab_scope.specs.declared.amounts.Count.{Count}
+use Rattle.elab_scope.specs.Modules.{part_first, part_of}
+use Rattle.elab_count.specs.declared.amounts.Count.{Count}
 use Rattle.elab_scope.specs.declared.numbers.Part.TheVariants as parts
 use Rattle.elab_scope.specs.Nets.{named_nets}
-use Rattle.elab_scope.specs.Counting.{nothing, together, all_together, capped, behind, net_count, links_count, conns_width, part_first, part_of, count_at, part_count, item_count, module_count, IsPart, AreCounts}
+use Rattle.elab_count.specs.Counting.{nothing, together, all_together, capped, behind, net_count, links_count, conns_width, count_at, part_count, item_count, module_count, IsPart, AreCounts}
 use Rattle.elab_unfold.specs.Places.{NetRow, row_width, rows_width, own_width}
 use Rattle.elab_unfold.specs.Parts.{IsWithin}
 use Rattle.elab_unfold.specs.Steps.{has_some}

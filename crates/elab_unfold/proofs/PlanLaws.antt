@@ -13,10 +13,11 @@ use Rattle.vlog_check.specs.Scope.{cell_first, module_of, module_number}
 use Rattle.vlog_check.specs.Checked.{Contains, IsChecked}
 use Rattle.elab_design.proofs.SoundLaws.{sound_design}
 use Rattle.elab_design.proofs.ExistLaws.{module_there}
-use Rattle.elab_scope.specs.declared.amounts.Count.{Count}
+use Rattle.elab_scope.specs.Modules.{part_of}
+use Rattle.elab_count.specs.declared.amounts.Count.{Count}
 use Rattle.elab_scope.specs.declared.numbers.Part.{Part}
 use Rattle.elab_scope.specs.declared.numbers.Part.TheVariants as parts
-use Rattle.elab_scope.specs.Counting.{all_together, with_name, cells_count, part_of, count_at, part_count, item_count, capped, module_count, IsPart, AreCounts}
+use Rattle.elab_count.specs.Counting.{all_together, with_name, cells_count, count_at, part_count, item_count, capped, module_count, IsPart, AreCounts}
 use Rattle.elab_unfold.specs.declared.shape.Own.TheVariants as owns
 use Rattle.elab_unfold.specs.declared.shape.Step.{Step}
 use Rattle.elab_unfold.specs.declared.shape.Step.TheVariants as steps

@@ -4,7 +4,7 @@ use Rattle.std.specs.Str.{bytes_eq}
 use Rattle.net_core.specs.declared.parts.NetId.{NetId}
 use Rattle.net_core.specs.declared.parts.Port.{Port}
 use Rattle.elab_design.specs.Raw.{net_id}
-use Rattle.elab_scope.specs.declared.amounts.Count.{Count}
+use Rattle.elab_count.specs.declared.amounts.Count.{Count}
 use Rattle.elab_unfold.specs.declared.places.Net.{Net}
 use Rattle.elab_unfold.specs.declared.shape.PortNet.{PortNet}
 

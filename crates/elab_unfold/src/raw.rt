@@ -2,7 +2,7 @@
 ghost use Rattle.std.specs.Prelude.{◌≡◌, ◌≤◌, length, Some, IfOk};
 ghost use Rattle.vlog_check.specs.Checked.{IsChecked};
 ghost use Rattle.vlog_check.specs.Scope.{module_number};
-ghost use Rattle.elab_scope.specs.Counting.{AreCounts, count_at};
+ghost use Rattle.elab_count.specs.Counting.{AreCounts, count_at};
 ghost use Rattle.elab_scope.specs.Nets.{AreNetsOfAll};
 ghost use Rattle.elab_design.specs.Limits.{HasClock};
 ghost use Rattle.elab_design.specs.Raw.{IsRawOf};
@@ -14,7 +14,8 @@ use crate::read_plan::read_plan;
 use crate::shape::{Plan, PortNet};
 use crate::state::State;
 use crate::whole::unfold_plan;
-use elab_scope::{Counts, Nets};
+use elab_count::Counts;
+use elab_scope::Nets;
 use flat_settle::Raw;
 use ila_base::{Items, NoMemory};
 use net_core::{NetId, Port};

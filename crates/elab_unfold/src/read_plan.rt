@@ -2,14 +2,15 @@
 ghost use Rattle.std.specs.Prelude.{◌≡◌, ◌≤◌, Some, IfOk};
 ghost use Rattle.vlog_check.specs.Checked.{IsChecked};
 ghost use Rattle.vlog_check.specs.Scope.{module_number};
-ghost use Rattle.elab_scope.specs.Counting.{AreCounts, count_at};
+ghost use Rattle.elab_count.specs.Counting.{AreCounts, count_at};
 ghost use Rattle.elab_scope.specs.Nets.{AreNetsOfAll};
 ghost use Rattle.elab_unfold.specs.Shapes.{IsPlan, shape_size};
 ghost use Rattle.elab_unfold.specs.Parts.{IsWithin};
 
 use crate::plan::read_shapes;
 use crate::shape::Plan;
-use elab_scope::{Counts, Nets, read_modules};
+use elab_count::Counts;
+use elab_scope::{Nets, read_modules};
 use ila_base::NoMemory;
 use std::alloc::Global;
 use vlog_parse::Tree;

@@ -1,7 +1,7 @@
 ghost use Rattle.std.specs.Prelude.{◌≡◌, ℕ, ◌+◌, ◌*◌, ◌<◌, ◌^◌};
 ghost use Rattle.elab_design.specs.Limits.{carried};
-ghost use Rattle.elab_scope.specs.Counting as counting;
-ghost use Rattle.elab_scope.specs.declared.amounts.Count.{Count as CountOf};
+ghost use Rattle.elab_count.specs.Counting as counting;
+ghost use Rattle.elab_count.specs.declared.amounts.Count.{Count as CountOf};
 
 /// Above this no count is told apart from it.
 pub const MOST: u64 = 1_000_000_000_000;

@@ -1,8 +1,8 @@
 -- Counts that are the same as far as they are carried.
 use Rattle.std.proofs.Common.{◌≡◌, ℕ, ◌+◌, ◌*◌, ◌≤◌, max, ◌⊎◌, inl, inr, refl, ap, sym, ◌∙◌, arith, add-mul, mul_comm}
 use Rattle.elab_design.specs.Limits.{carried}
-use Rattle.elab_scope.specs.declared.amounts.Count.{Count}
-use Rattle.elab_scope.specs.Counting.{capped, together, behind}
+use Rattle.elab_count.specs.declared.amounts.Count.{Count}
+use Rattle.elab_count.specs.Counting.{capped, together, behind}
 
 pub carried_twice : (n : ℕ) → carried (carried n) ≡ carried n
 carried_twice n = grind arith
