@@ -10,10 +10,11 @@ ghost use Rattle.elab_scope.specs.Modules.{AreNumbered, part_of};
 ghost use Rattle.elab_scope.specs.Nets.{AreNets, named_nets};
 ghost use Rattle.elab_count.specs.Amounts.{saturated, AreCapped};
 
-use crate::amounts::{Count, MOST};
+use crate::amounts::Count;
 use crate::exprs::{width_of, width_of_conns};
 use elab_scope::{Modules, Nets, Part, part_of};
 use ila_base::Name;
+use ila_base::limits::GREATEST_COUNT;
 use vlog_check::{Primitive, Size, pins, range_width};
 use vlog_parse::{Gate, Inst, Item, Module, Range, Value};
 
@@ -40,7 +41,7 @@ fn number_in(value: Value) -> u64
 {
     match value {
         Value::Whole(n) => n as u64,
-        Value::Sized(word) => word.word().value.min(MOST as u128) as u64,
+        Value::Sized(word) => word.word().value.min(GREATEST_COUNT as u128) as u64,
         Value::Text => 0,
     }
 }

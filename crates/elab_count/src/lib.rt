@@ -10,6 +10,6 @@ mod graph;
 mod items;
 mod laws;
 
-pub use amounts::{Count, Counts, MOST};
+pub use amounts::{Count, Counts};
 pub use every::count_all;
 pub use laws::counts_are_amounts;

@@ -168,8 +168,8 @@ fn flatten_tree(alloc: Global, tree: &Tree, name: &[u8], clock: &[u8]) -> Result
 }
 
 /// The flat netlist of a checked design with this clock port, in flat order. It refuses a clock that is
-/// no one-bit input of the top; then a design of more than 256 instance names on a path, 1,048,576
-/// cells, 16,777,216 pins, 1,048,576 net bits or 67,108,864 bytes of identifiers, with the count; then
+/// no one-bit input of the top; then a design of more than `DEPTH` instance names on a path, `CELLS`
+/// cells, `PINS` pins, `NETS` net bits or `ALL_NAME_BYTES` bytes of identifiers, with the count; then
 /// names that are equal, net bits with two sources, read net bits that aren't driven, a second clock,
 /// and the clock read as data, each with the first name in flat order. It takes time linear in the text
 /// and in what comes out.

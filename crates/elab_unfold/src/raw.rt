@@ -1,5 +1,6 @@
 //! The raw netlist of a design.
-ghost use Rattle.std.specs.Prelude.{◌≡◌, ◌≤◌, length, Some, IfOk};
+ghost use Rattle.std.specs.Prelude.{◌≡◌, ◌≤◌, ◌<◌, ◌^◌, length, Some, IfOk};
+ghost use Rattle.ila_base.specs.declared.limits.TheConstants.{NETS};
 ghost use Rattle.vlog_check.specs.Checked.{IsChecked};
 ghost use Rattle.vlog_check.specs.Scope.{module_number};
 ghost use Rattle.elab_count.specs.Counting.{AreCounts, count_at};
@@ -24,7 +25,7 @@ use vlog_parse::Tree;
 
 // The ports of a module: the first groups are those of the names of its header.
 fn ports_of(alloc: Global, ports: &[PortNet]) -> Result<Items<Port>, NoMemory>
-    requires { length ports.now ≤ 4294967295 }
+    requires { length ports.now < 2 ^ 32 }
     ensures { IfOk result (λ out. out ≡ ports_of 0 ports.now) }
 {
     let mut out = Items::new(alloc);
@@ -55,7 +56,7 @@ fn clock_of(ports: &[PortNet], name: &[u8]) -> NetId
 // The raw netlist of a plan.
 fn raw_of(alloc: Global, plan: &Plan) -> Result<Raw, NoMemory>
     requires plan { IsPlan plan.now }
-    requires few { shape_size plan.now plan.now.top ≤ 1048576 }
+    requires few { shape_size plan.now plan.now.top ≤ NETS }
     requires checked { IsChecked plan.now.tree.now plan.now.name.now }
     requires clock { HasClock (design_of plan.now) }
     requires top { module_number plan.now.tree.now plan.now.name.now ≡ Some plan.now.top }

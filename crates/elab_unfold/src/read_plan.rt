@@ -1,5 +1,6 @@
 //! What is kept of the modules of a checked hierarchy while it is unfolded.
 ghost use Rattle.std.specs.Prelude.{◌≡◌, ◌≤◌, Some, IfOk};
+ghost use Rattle.ila_base.specs.declared.limits.TheConstants.{NETS};
 ghost use Rattle.vlog_check.specs.Checked.{IsChecked};
 ghost use Rattle.vlog_check.specs.Scope.{module_number};
 ghost use Rattle.elab_count.specs.Counting.{AreCounts, count_at};
@@ -31,7 +32,7 @@ pub fn read_plan<'a>(
     requires counts { AreCounts tree.now top counts.now.table.items }
     requires few { IsWithin (count_at counts.now.table.items top) }
     ensures plan { IfOk result IsPlan }
-    ensures size { IfOk result (λ plan. shape_size plan plan.top ≤ 1048576) }
+    ensures size { IfOk result (λ plan. shape_size plan plan.top ≤ NETS) }
     ensures tree { IfOk result (λ plan. plan.tree.now ≡ tree.now) }
     ensures name { IfOk result (λ plan. plan.name.now ≡ name.now) }
     ensures clock { IfOk result (λ plan. plan.clock.now ≡ clock.now) }
