@@ -1,5 +1,6 @@
 -- Bits by their places: place 0 is the constant 0, place 1 the constant 1, and place n + 2 net n.
 use Rattle.std.specs.Prelude.{◌≡◌, ℕ, ◌+◌, ◌<◌, ◌≤◌, Bool, true, false, List, map, slice_index_or, ⊤}
+use Rattle.ila_base.specs.declared.limits.TheConstants.{ADDRESS_BITS}
 use Rattle.net_core.specs.declared.kind.CellKind.{CellKind}
 use Rattle.net_core.specs.declared.kind.CellKind.TheVariants.{Lut, Carry4, Mem}
 use Rattle.net_core.specs.declared.parts.Pin.{Pin}
@@ -39,5 +40,5 @@ is_memory _ = false
 
 -- what the writing of a memory asks of its pins
 abbrev pub HasMemoryPins : CellKind → ℕ → Type 0
-HasMemoryPins (Mem aw dw) count = (count ≡ 1 + aw + dw) × (aw ≤ 17) × (0 < dw)
+HasMemoryPins (Mem aw dw) count = (count ≡ 1 + aw + dw) × (aw ≤ ADDRESS_BITS) × (0 < dw)
 HasMemoryPins _ count = ⊤

@@ -1,4 +1,5 @@
 ghost use Rattle.std.specs.Prelude.{◌≡◌, ℕ, ◌≤◌, ◌<◌, ◌+◌, ◌*◌, ◌^◌, length, slice_get, slice_range, Some};
+ghost use Rattle.ila_base.specs.declared.limits.TheConstants.{ADDRESS_BITS};
 ghost use Rattle.net_core.specs.CellTable as kinds;
 ghost use Rattle.clock_sim.specs.Reading.{bit_at_place, read_all, HasMemoryPins};
 ghost use Rattle.net_core.specs.declared.kind.CellKind.TheVariants.{Mem};
@@ -88,7 +89,7 @@ fn write_memory(stored: &mut Bits, values: &[bool], own: &[u32], base: usize, aw
     requires few { length stored.old < 2 ^ 64 }
     requires base { base + 2 ^ aw * dw ≤ length stored.old }
     requires pins { length own.now ≡ 1 + aw + dw }
-    requires address { aw ≤ 17 }
+    requires address { aw ≤ ADDRESS_BITS }
     requires width { 0 < dw }
     requires small { dw < 2 ^ 16 }
     ensures { AdvancesRow (Mem aw dw) base (read_all values.now own.now) stored.old stored.new }

@@ -2,6 +2,7 @@
 ghost use Rattle.std.specs.Prelude.{◌≡◌, ◌≤◌, ◌<◌, ◌^◌, ◌==◌, ◌&&◌, ◌||◌, false, length, reverse, if◌then◌else◌};
 ghost use Rattle.std.specs.Bool.{xor};
 ghost use Rattle.std.specs.Int.{bit_at as bit_at_number};
+ghost use Rattle.ila_base.specs.declared.limits.TheConstants.{ADDRESS_BITS};
 ghost use Rattle.net_core.specs.declared.kind.GateCode.TheVariants.{And, Or, Xor};
 ghost use Rattle.net_core.specs.CellTable as table;
 ghost use Rattle.clock_sim.specs.Reading.{bit_at_place, read_all, HasPins, is_memory};
@@ -110,7 +111,7 @@ fn address(values: &[bool], pins: &[u32]) -> u32
 
 /// The number that the pins are in binary, the first pin the highest bit.
 pub fn row_number(values: &[bool], pins: &[u32]) -> u32
-    requires { length pins.now ≤ 17 }
+    requires { length pins.now ≤ ADDRESS_BITS }
     ensures number { result ≡ table.binary (read_all values.now pins.now) }
     ensures small { result < 2 ^ length pins.now }
 {

@@ -7,9 +7,9 @@ use Rattle.std.proofs.lemmas.Option.{get_or_from_slice_get, slice_get-get_or}
 use Rattle.vlog_parse.specs.declared.tree.Module.{Module}
 use Rattle.vlog_parse.specs.declared.tree.Range.{Range}
 use Rattle.vlog_check.proofs.LeastLaws.{take_step}
-use Rattle.elab_scope.specs.declared.amounts.Count.{Count}
+use Rattle.elab_count.specs.declared.amounts.Count.{Count}
 use Rattle.elab_scope.specs.declared.nets.Nets.{Nets}
-use Rattle.elab_scope.specs.Counting.{nothing, together, all_together, capped, net_count, count_at}
+use Rattle.elab_count.specs.Counting.{nothing, together, all_together, capped, net_count, count_at}
 use Rattle.elab_scope.specs.Nets.{rows_seen, named_nets, AreNets}
 use Rattle.elab_count.specs.Amounts.{AreCapped}
 

@@ -23,7 +23,7 @@ use Rattle.flat_settle.specs.Tables.{row_of}
 use Rattle.flat_settle.proofs.RowLemmas.{AreRowsBelow, rows_all, edges_all}
 use Rattle.elab_scope.specs.declared.numbers.Part.{Part}
 use Rattle.elab_scope.specs.declared.numbers.Part.TheVariants as parts
-use Rattle.elab_scope.specs.Counting.{part_first, part_of}
+use Rattle.elab_scope.specs.Modules.{part_first, part_of}
 use Rattle.elab_count.specs.Instances.{part_number, contained_by, contained_where, contained_rows, IsInstanceGraph}
 
 -- Numbers

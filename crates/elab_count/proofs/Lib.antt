@@ -4,3 +4,8 @@ pub mod InstanceLaws
 pub mod SortLaws
 pub mod PartLaws
 pub mod ProgressLaws
+pub mod CapLaws
+pub mod CountedLaws
+pub mod ItemLaws
+pub mod PortSumLaws
+pub mod WholeLaws

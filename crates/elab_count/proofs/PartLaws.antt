@@ -9,7 +9,7 @@ use Rattle.net_graph.specs.declared.graph.Graph.{Graph}
 use Rattle.net_graph.specs.Graph.{Leads, IsCycle}
 use Rattle.net_graph.specs.Reach.{Reaches, itself, along}
 use Rattle.net_graph.specs.Lists.{is_marked}
-use Rattle.elab_scope.specs.Counting.{IsPart}
+use Rattle.elab_count.specs.Counting.{IsPart}
 use Rattle.elab_count.specs.Instances.{IsInstanceGraph, IsSorting, AreInOrder}
 
 below_more : (tree : Tree) (a b c : ℕ) → IsBelow tree a b → Contains tree b c → IsBelow tree a c

@@ -13,10 +13,11 @@ use Rattle.vlog_parse.specs.ReadTree.{In}
 use Rattle.vlog_check.specs.Scope.{module_number, cell_of}
 use Rattle.net_graph.specs.Lists.{is_marked}
 use Rattle.net_graph.proofs.ListLemmas.{slice_get_set_same, slice_get_set_other}
-use Rattle.elab_scope.specs.declared.amounts.Count.{Count}
+use Rattle.elab_scope.specs.Modules.{part_of}
+use Rattle.elab_count.specs.declared.amounts.Count.{Count}
 use Rattle.elab_scope.specs.declared.numbers.Part.{Part}
 use Rattle.elab_scope.specs.declared.numbers.Part.TheVariants as parts
-use Rattle.elab_scope.specs.Counting.{nothing, together, all_together, capped, net_count, links_count, conns_width, behind, count_at, part_of, part_count, item_count, module_count, IsPart, AreCounts}
+use Rattle.elab_count.specs.Counting.{nothing, together, all_together, capped, net_count, links_count, conns_width, behind, count_at, part_count, item_count, module_count, IsPart, AreCounts}
 use Rattle.elab_scope.specs.Nets.{named_nets}
 use Rattle.elab_count.specs.Instances.{AreInOrder}
 use Rattle.elab_count.specs.Progress.{IsOneCounted, AreCountedTo}

@@ -1,7 +1,7 @@
 -- Amounts as they are added up.
 use Rattle.std.specs.Prelude.{◌≡◌, ℕ, ◌-◌, ◌^◌, min, List, slice_get, Option, Some}
-use Rattle.elab_scope.specs.declared.amounts.Count.{Count}
-use Rattle.elab_scope.specs.Counting.{capped}
+use Rattle.elab_count.specs.declared.amounts.Count.{Count}
+use Rattle.elab_count.specs.Counting.{capped}
 
 -- a sum that is larger than this stays at this
 abbrev pub saturated : ℕ → ℕ

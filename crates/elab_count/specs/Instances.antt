@@ -10,7 +10,7 @@ use Rattle.net_graph.specs.Graph.{Leads, node_count}
 use Rattle.net_graph.specs.Lists.{is_marked}
 use Rattle.elab_scope.specs.declared.numbers.Part.{Part}
 use Rattle.elab_scope.specs.declared.numbers.Part.TheVariants as parts
-use Rattle.elab_scope.specs.Counting.{part_of}
+use Rattle.elab_scope.specs.Modules.{part_of}
 
 abbrev pub part_number : Option Part → Option ℕ
 part_number None = None

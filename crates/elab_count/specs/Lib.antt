@@ -1,3 +1,4 @@
+pub mod Counting
 pub mod Amounts
 pub mod Instances
 pub mod Progress

@@ -3,8 +3,8 @@ use Rattle.std.specs.Prelude.{◌≡◌, ℕ, ◌<◌, Bool, true, false, ◌⊎
 use Rattle.vlog_parse.specs.declared.tree.Tree.{Tree}
 use Rattle.vlog_parse.specs.declared.tree.Module.{Module}
 use Rattle.net_graph.specs.Lists.{is_marked}
-use Rattle.elab_scope.specs.declared.amounts.Count.{Count}
-use Rattle.elab_scope.specs.Counting.{capped, module_count}
+use Rattle.elab_count.specs.declared.amounts.Count.{Count}
+use Rattle.elab_count.specs.Counting.{capped, module_count}
 use Rattle.elab_count.specs.Amounts.{AreCapped}
 
 -- module k isn't wanted and the table stays, or it is and its count is put into the table

@@ -3,7 +3,7 @@ ghost use Rattle.std.specs.Option.{option_map_or};
 ghost use Rattle.vlog_parse.specs.declared.tree.Module.{Module as ModuleOf};
 ghost use Rattle.vlog_check.specs.Scope as look;
 ghost use Rattle.elab_scope.specs.Nets.{AreNets};
-ghost use Rattle.elab_scope.specs.Counting.{conns_width};
+ghost use Rattle.elab_count.specs.Counting.{conns_width};
 ghost use Rattle.elab_count.specs.Amounts.{saturated};
 
 use elab_scope::Nets;

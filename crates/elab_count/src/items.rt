@@ -5,14 +5,16 @@ ghost use Rattle.vlog_check.specs.Cells.{number_in};
 ghost use Rattle.vlog_check.specs.CellRows.{bits_sized};
 ghost use Rattle.elab_design.specs.DesignCells.{parameter};
 ghost use Rattle.elab_design.specs.Limits.{carried};
-ghost use Rattle.elab_scope.specs.Counting as counting;
-ghost use Rattle.elab_scope.specs.Modules.{AreNumbered};
+ghost use Rattle.elab_count.specs.Counting as counting;
+ghost use Rattle.elab_scope.specs.Modules.{AreNumbered, part_of};
 ghost use Rattle.elab_scope.specs.Nets.{AreNets, named_nets};
 ghost use Rattle.elab_count.specs.Amounts.{saturated, AreCapped};
 
+use crate::amounts::Count;
 use crate::exprs::{width_of, width_of_conns};
-use elab_scope::{Count, MOST, Modules, Nets, Part, part_of};
+use elab_scope::{Modules, Nets, Part, part_of};
 use ila_base::Name;
+use ila_base::limits::GREATEST_COUNT;
 use vlog_check::{Primitive, Size, pins, range_width};
 use vlog_parse::{Gate, Inst, Item, Module, Range, Value};
 
@@ -39,7 +41,7 @@ fn number_in(value: Value) -> u64
 {
     match value {
         Value::Whole(n) => n as u64,
-        Value::Sized(word) => word.word().value.min(MOST as u128) as u64,
+        Value::Sized(word) => word.word().value.min(GREATEST_COUNT as u128) as u64,
         Value::Text => 0,
     }
 }
@@ -106,7 +108,7 @@ fn count_inner(nets: &Nets, counts: &[Option<Count>], inst: &Inst, number: usize
 fn count_inst(nets: &Nets, modules: &Modules, counts: &[Option<Count>], inst: &Inst) -> Count
     requires numbered { AreNumbered modules.now }
     requires capped { AreCapped counts.now }
-    ensures { (m : ModuleOf) → AreNets m nets.now → result ≡ counting.capped (counting.part_count counts.now m inst.now (counting.part_of modules.now.tree.now inst.now)) }
+    ensures { (m : ModuleOf) → AreNets m nets.now → result ≡ counting.capped (counting.part_count counts.now m inst.now (part_of modules.now.tree.now inst.now)) }
 {
     match part_of(modules, inst) {
         None => Count::ZERO,

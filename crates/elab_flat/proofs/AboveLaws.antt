@@ -3,10 +3,11 @@ use Rattle.std.proofs.Common.{◌≡◌, zero, suc, ◌<◌, ◌≤◌, List, []
 use Rattle.std.proofs.lemmas.Option.{same_Some, none-some}
 use Rattle.ila_base.specs.declared.refusal.LimitKind.{LimitKind}
 use Rattle.ila_base.specs.declared.refusal.LimitKind.TheVariants.{FileBytes, NameLength, Constant, Nesting, Index, Depth, Cells, Pins, Nets, AllNames}
+use Rattle.ila_base.specs.declared.limits.TheConstants.{DEPTH, CELLS, PINS, NETS, ALL_NAME_BYTES, GREATEST_COUNT}
 use Rattle.vlog_parse.specs.ReadTree.{In}
 use Rattle.elab_design.specs.Limits.{greatest}
-use Rattle.elab_scope.specs.declared.amounts.Count.{Count}
-use Rattle.elab_amounts.specs.Amounts.{count_of}
+use Rattle.elab_count.specs.declared.amounts.Count.{Count}
+use Rattle.elab_count.specs.Counting.{count_of}
 use Rattle.elab_flat.specs.declared.limits.Above.{Above}
 use Rattle.elab_flat.specs.Above.{IsAbove, IsFirstAbove}
 
@@ -19,7 +20,7 @@ module _ (P : LimitKind → Type 0) where
   for_more first more holds others kind (suc n, at) = others kind (n, at)
 
 -- no limit is so large that a count above it isn't told
-pub greatest_low : (kind : LimitKind) → greatest kind < 1000000000000
+pub greatest_low : (kind : LimitKind) → greatest kind < GREATEST_COUNT
 greatest_low FileBytes = omega arith
 greatest_low NameLength = omega arith
 greatest_low Constant = omega arith
@@ -37,7 +38,7 @@ module _ (c : Count) where
   Low : LimitKind → Type 0
   Low kind = count_of kind c ≤ greatest kind
 
-  pins_above : c.depth ≤ 256 → c.cells ≤ 1048576 → 16777216 < c.pins → IsAbove c (record { kind = Pins; amount = c.pins })
+  pins_above : c.depth ≤ DEPTH → c.cells ≤ CELLS → PINS < c.pins → IsAbove c (record { kind = Pins; amount = c.pins })
   unfolding Low
   pins_above deep cells more = record {
     among = (2, refl);
@@ -46,7 +47,7 @@ module _ (c : Count) where
     earlier = for_more Low Depth (Cells ∷ []) deep (for_more Low Cells [] cells (for_none Low));
   }
 
-  nets_above : c.depth ≤ 256 → c.cells ≤ 1048576 → c.pins ≤ 16777216 → 1048576 < c.nets → IsAbove c (record { kind = Nets; amount = c.nets })
+  nets_above : c.depth ≤ DEPTH → c.cells ≤ CELLS → c.pins ≤ PINS → NETS < c.nets → IsAbove c (record { kind = Nets; amount = c.nets })
   unfolding Low
   nets_above deep cells pins more = record {
     among = (3, refl);
@@ -55,7 +56,7 @@ module _ (c : Count) where
     earlier = for_more Low Depth (Cells ∷ Pins ∷ []) deep (for_more Low Cells (Pins ∷ []) cells (for_more Low Pins [] pins (for_none Low)));
   }
 
-  bytes_above : c.depth ≤ 256 → c.cells ≤ 1048576 → c.pins ≤ 16777216 → c.nets ≤ 1048576 → 67108864 < c.bytes → IsAbove c (record { kind = AllNames; amount = c.bytes })
+  bytes_above : c.depth ≤ DEPTH → c.cells ≤ CELLS → c.pins ≤ PINS → c.nets ≤ NETS → ALL_NAME_BYTES < c.bytes → IsAbove c (record { kind = AllNames; amount = c.bytes })
   unfolding Low
   bytes_above deep cells pins nets more = record {
     among = (4, refl);
@@ -64,12 +65,12 @@ module _ (c : Count) where
     earlier = for_more Low Depth (Cells ∷ Pins ∷ Nets ∷ []) deep (for_more Low Cells (Pins ∷ Nets ∷ []) cells (for_more Low Pins (Nets ∷ []) pins (for_more Low Nets [] nets (for_none Low))));
   }
 
-  pub pins_first : (first : Option Above) → first ≡ Some (record { kind = Pins; amount = c.pins }) → c.depth ≤ 256 → c.cells ≤ 1048576 → 16777216 < c.pins → IsFirstAbove c first
+  pub pins_first : (first : Option Above) → first ≡ Some (record { kind = Pins; amount = c.pins }) → c.depth ≤ DEPTH → c.cells ≤ CELLS → PINS < c.pins → IsFirstAbove c first
   pins_first first is deep cells more = subst (IsFirstAbove c) (sym is) (pins_above deep cells more)
 
-  pub nets_first : (first : Option Above) → first ≡ Some (record { kind = Nets; amount = c.nets }) → c.depth ≤ 256 → c.cells ≤ 1048576 → c.pins ≤ 16777216 → 1048576 < c.nets → IsFirstAbove c first
+  pub nets_first : (first : Option Above) → first ≡ Some (record { kind = Nets; amount = c.nets }) → c.depth ≤ DEPTH → c.cells ≤ CELLS → c.pins ≤ PINS → NETS < c.nets → IsFirstAbove c first
   nets_first first is deep cells pins more = subst (IsFirstAbove c) (sym is) (nets_above deep cells pins more)
 
-  pub bytes_first : (first : Option Above) → first ≡ Some (record { kind = AllNames; amount = c.bytes }) → c.depth ≤ 256 → c.cells ≤ 1048576 → c.pins ≤ 16777216 → c.nets ≤ 1048576 → 67108864 < c.bytes
+  pub bytes_first : (first : Option Above) → first ≡ Some (record { kind = AllNames; amount = c.bytes }) → c.depth ≤ DEPTH → c.cells ≤ CELLS → c.pins ≤ PINS → c.nets ≤ NETS → ALL_NAME_BYTES < c.bytes
       → IsFirstAbove c first
   bytes_first first is deep cells pins nets more = subst (IsFirstAbove c) (sym is) (bytes_above deep cells pins nets more)

@@ -8,6 +8,7 @@ use Rattle.ila_base.specs.declared.fault.NetFault.{NetFault}
 use Rattle.ila_base.specs.declared.fault.NetStop.{NetStop}
 use Rattle.ila_base.specs.declared.fault.NetStop.TheVariants as stops
 use Rattle.ila_base.specs.Stops.{StopsFor}
+use Rattle.ila_base.specs.declared.limits.TheConstants.{GREATEST_COUNT}
 use Rattle.vlog_parse.specs.declared.tree.Module.{Module}
 use Rattle.vlog_parse.specs.ReadTree.{In}
 use Rattle.flat_settle.specs.declared.raw.Raw.{Raw}
@@ -16,8 +17,8 @@ use Rattle.elab_design.specs.DesignCells.{DesignCell}
 use Rattle.elab_design.specs.Order.{DesignGroup, FlatOrder}
 use Rattle.elab_design.specs.Raw.{IsRawOf}
 use Rattle.elab_design.specs.Limits.{HasClock, IsDeepest, amount, Counts, depth, unfolded, greatest, HasLimits, carried, IsElabFault, no_clock, above, unsettled}
-use Rattle.elab_scope.specs.declared.amounts.Count.{Count}
-use Rattle.elab_amounts.specs.Amounts.{count_of}
+use Rattle.elab_count.specs.declared.amounts.Count.{Count}
+use Rattle.elab_count.specs.Counting.{count_of}
 use Rattle.elab_unfold.specs.Parts.{IsWithin}
 use Rattle.elab_flat.specs.declared.limits.Above.{Above}
 use Rattle.elab_flat.specs.Above.{IsClockIn, kinds, IsAbove, IsFirstAbove, IsFaultBefore, IsUnsettled}
@@ -28,7 +29,7 @@ use Rattle.ila_base.specs.declared.place.TheConstants.Place.{NOWHERE}
 abbrev pub IsCarried : Design → Count → Type 0
 IsCarried d c = (kind : LimitKind) (n : ℕ) → Counts d kind n → count_of kind c ≡ carried n
 
-carried_low : (n greatest : ℕ) → greatest < 1000000000000 → carried n ≤ greatest → n ≤ greatest
+carried_low : (n greatest : ℕ) → greatest < GREATEST_COUNT → carried n ≤ greatest → n ≤ greatest
 carried_low n greatest low within = grind arith
 
 carried_high : (n greatest : ℕ) → greatest < carried n → greatest < n

@@ -8,8 +8,8 @@ use Rattle.vlog_parse.specs.declared.tree.Dir.TheVariants.{Input}
 use Rattle.vlog_parse.specs.declared.tree.Module.{Module}
 use Rattle.vlog_parse.specs.ReadTree.{In}
 use Rattle.vlog_check.specs.Scope.{direction_of, net_width}
-use Rattle.elab_scope.specs.declared.amounts.Count.{Count}
-use Rattle.elab_amounts.specs.Amounts.{count_of}
+use Rattle.elab_count.specs.declared.amounts.Count.{Count}
+use Rattle.elab_count.specs.Counting.{count_of}
 use Rattle.elab_design.specs.Limits.{greatest, earlier_kinds, refusal_of}
 use Rattle.flat_settle.specs.declared.raw.Raw.{Raw}
 use Rattle.flat_settle.specs.declared.raw.Unsettled.{Unsettled}

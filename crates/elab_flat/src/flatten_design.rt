@@ -13,17 +13,16 @@ ghost use Rattle.elab_design.specs.Limits.{IsElabFault};
 ghost use Rattle.elab_design.specs.Elaborates.{Elaborates};
 ghost use Rattle.elab_flat.specs.declared.limits.Above.{Above as AboveOf};
 ghost use Rattle.elab_flat.specs.Above.{IsClockIn, IsAbove, IsFirstAbove, IsFaultBefore, IsUnsettled};
-ghost use Rattle.elab_scope.specs.Counting.{count_at};
+ghost use Rattle.elab_count.specs.Counting.{count_at};
 ghost use Rattle.elab_scope.specs.Nets.{AreNets};
 ghost use Rattle.flat_settle.specs.declared.raw.Raw.{Raw as RawOf};
 ghost use Rattle.ila_base.specs.declared.place.TheConstants.Place.{NOWHERE};
 
 use crate::clock::is_clock;
 use crate::limits::first_above;
-use elab_amounts::counts_are_amounts;
-use elab_count::count_all;
+use elab_count::{Count, Counts, count_all, counts_are_amounts};
 use elab_design::{elaborates, has_counts, one_fault, raw_is_unfolded};
-use elab_scope::{Count, Counts, Nets, read_all_nets, read_modules};
+use elab_scope::{Nets, read_all_nets, read_modules};
 use elab_unfold::unfold;
 use flat_settle::{Raw, Unsettled, settle};
 use ila_base::{Name, NetFault, NetRefusal, NetStop, NoMemory, Place};
@@ -169,8 +168,8 @@ fn flatten_tree(alloc: Global, tree: &Tree, name: &[u8], clock: &[u8]) -> Result
 }
 
 /// The flat netlist of a checked design with this clock port, in flat order. It refuses a clock that is
-/// no one-bit input of the top; then a design of more than 256 instance names on a path, 1,048,576
-/// cells, 16,777,216 pins, 1,048,576 net bits or 67,108,864 bytes of identifiers, with the count; then
+/// no one-bit input of the top; then a design of more than `DEPTH` instance names on a path, `CELLS`
+/// cells, `PINS` pins, `NETS` net bits or `ALL_NAME_BYTES` bytes of identifiers, with the count; then
 /// names that are equal, net bits with two sources, read net bits that aren't driven, a second clock,
 /// and the clock read as data, each with the first name in flat order. It takes time linear in the text
 /// and in what comes out.

@@ -3,8 +3,9 @@
 ghost use Rattle.std.specs.Prelude.{◌≡◌, Some};
 ghost use Rattle.elab_flat.specs.Above.{IsFirstAbove};
 
-use elab_scope::Count;
+use elab_count::Count;
 use ila_base::LimitKind;
+use ila_base::limits::{ALL_NAME_BYTES, CELLS, DEPTH, NETS, PINS};
 
 /// A number that is above the limit of its kind.
 #[derive(Clone, Copy, Debug, PartialEq, Eq)]
@@ -13,25 +14,25 @@ pub struct Above {
     pub amount: u64,
 }
 
-/// The first number of a count that is above its limit: more than 256 instance names on a path,
-/// 1,048,576 cells, 16,777,216 pins, 1,048,576 net bits, or 67,108,864 bytes of identifiers.
+/// The first number of a count that is above its limit: more than `DEPTH` instance names on a path,
+/// `CELLS` cells, `PINS` pins, `NETS` net bits, or `ALL_NAME_BYTES` bytes of identifiers.
 #[tactic(auto, using(crate::proofs::AboveLaws::pins_first, crate::proofs::AboveLaws::nets_first, crate::proofs::AboveLaws::bytes_first))]
 pub fn first_above(count: Count) -> Option<Above>
     ensures { IsFirstAbove count result }
 {
-    if count.depth > 256 {
+    if count.depth > DEPTH {
         return over(LimitKind::Depth, count.depth);
     }
-    if count.cells > 1_048_576 {
+    if count.cells > CELLS {
         return over(LimitKind::Cells, count.cells);
     }
-    if count.pins > 16_777_216 {
+    if count.pins > PINS {
         return over(LimitKind::Pins, count.pins);
     }
-    if count.nets > 1_048_576 {
+    if count.nets > NETS {
         return over(LimitKind::Nets, count.nets);
     }
-    if count.bytes > 67_108_864 {
+    if count.bytes > ALL_NAME_BYTES {
         return over(LimitKind::AllNames, count.bytes);
     }
     None

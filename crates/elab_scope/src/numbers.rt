@@ -1,6 +1,5 @@
 ghost use Rattle.std.specs.Prelude.{◌≡◌, IfOk};
-ghost use Rattle.elab_scope.specs.Counting as counting;
-ghost use Rattle.elab_scope.specs.Modules.{AreNumbered};
+ghost use Rattle.elab_scope.specs.Modules.{AreNumbered, part_of};
 
 use ila_base::NoMemory;
 use std::alloc::Global;
@@ -37,7 +36,7 @@ pub fn read_modules<'a>(alloc: Global, tree: &'a Tree) -> Result<Modules<'a>, No
 /// What an instance is of: a cell counts before a module of its name.
 pub fn part_of(modules: &Modules, inst: &Inst) -> Option<Part>
     requires { AreNumbered modules.now }
-    ensures { result ≡ counting.part_of modules.now.tree.now inst.now }
+    ensures { result ≡ part_of modules.now.tree.now inst.now }
 {
     match cell_of(inst.module.bytes()) {
         Some(cell) => Some(Part::Cell(cell)),

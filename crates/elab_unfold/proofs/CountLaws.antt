@@ -3,6 +3,7 @@ use Rattle.std.proofs.Common.{◌≡◌, ℕ, zero, suc, ◌+◌, ◌^◌, ◌<�
 use Rattle.std.specs.Option.{option_map_or}
 use Rattle.std.proofs.lemmas.Option.{same_Some}
 use Rattle.std.proofs.lemmas.Bool.Decides.{nat_tests}
+use Rattle.ila_base.specs.declared.limits.TheConstants.{DEPTH, NETS}
 use Rattle.vlog_parse.specs.declared.tree.Tree.{Tree}
 use Rattle.vlog_parse.specs.declared.tree.Module.{Module}
 use Rattle.vlog_parse.specs.declared.tree.Item.{Item}
@@ -17,10 +18,11 @@ use Rattle.elab_design.proofs.Lists.{in_none}
 use Rattle.elab_design.proofs.SoundLaws.{and_then_some, module_first}
 use Rattle.elab_design.proofs.ExistLaws.{module_there, below_more}
 use Rattle.elab_design.proofs.LeafLaws.{or_none}
-use Rattle.elab_scope.specs.declared.amounts.Count.{Count}
+use Rattle.elab_scope.specs.Modules.{part_first, part_of}
+use Rattle.elab_count.specs.declared.amounts.Count.{Count}
 use Rattle.elab_scope.specs.declared.numbers.Part.TheVariants as parts
 use Rattle.elab_scope.specs.Nets.{named_nets}
-use Rattle.elab_scope.specs.Counting.{nothing, together, all_together, capped, behind, net_count, links_count, conns_width, part_first, part_of, count_at, part_count, item_count, module_count, IsPart, AreCounts}
+use Rattle.elab_count.specs.Counting.{nothing, together, all_together, capped, behind, net_count, links_count, conns_width, count_at, part_count, item_count, module_count, IsPart, AreCounts}
 use Rattle.elab_unfold.specs.Places.{NetRow, row_width, rows_width, own_width}
 use Rattle.elab_unfold.specs.Parts.{IsWithin}
 use Rattle.elab_unfold.specs.Steps.{has_some}
@@ -127,13 +129,13 @@ module _ (tree : Tree) (inst : Inst) where
 
 -- Modules below the top
 
-small_nets : (own items inner whole : ℕ) → inner ≤ items → whole ≡ carried (own + items) → whole ≤ 1048576 → inner ≤ 1048576
+small_nets : (own items inner whole : ℕ) → inner ≤ items → whole ≡ carried (own + items) → whole ≤ NETS → inner ≤ NETS
 small_nets own items inner whole low is few = grind arith
 
-small_depth : (own items inner whole : ℕ) → inner + 1 ≤ items → whole ≡ carried (max own items) → whole ≤ 256 → inner < whole
+small_depth : (own items inner whole : ℕ) → inner + 1 ≤ items → whole ≡ carried (max own items) → whole ≤ DEPTH → inner < whole
 small_depth own items inner whole low is few = grind arith
 
-exact_nets : (own items whole : ℕ) → whole ≡ carried (own + items) → whole ≤ 1048576 → whole ≡ own + items
+exact_nets : (own items whole : ℕ) → whole ≡ carried (own + items) → whole ≤ NETS → whole ≡ own + items
 exact_nets own items whole is few = grind arith
 
 none_below : (own items : ℕ) → 0 ≡ carried (own + items) → (own ≡ 0) × (items ≡ 0)
@@ -227,5 +229,5 @@ module _ (tree : Tree) (top : ℕ) (table : List (Option Count)) (counts : AreCo
       let limit = own.nets in
       small (own_width m) (its_items m).nets (count_at table n).nets exact limit
     where
-      small : (own items whole : ℕ) → whole ≡ own + items → whole ≤ 1048576 → own < 2 ^ 32
+      small : (own items whole : ℕ) → whole ≡ own + items → whole ≤ NETS → own < 2 ^ 32
       small own items whole is few = omega (arith, is, few)

@@ -21,11 +21,12 @@ use Rattle.elab_design.specs.Order.{DesignGroup, net_group, net_names, own_group
 use Rattle.elab_design.proofs.SoundLaws.{IsSoundDesign, sound_design}
 use Rattle.elab_design.proofs.CheckLaws.{within_clean}
 use Rattle.elab_design.proofs.WidthLaws.{sources_length}
-use Rattle.elab_scope.specs.declared.amounts.Count.{Count}
+use Rattle.elab_scope.specs.Modules.{part_of}
+use Rattle.elab_count.specs.declared.amounts.Count.{Count}
 use Rattle.elab_scope.specs.declared.numbers.Part.{Part}
 use Rattle.elab_scope.specs.declared.numbers.Part.TheVariants as parts
 use Rattle.elab_scope.specs.Nets.{net_named, named_nets}
-use Rattle.elab_scope.specs.Counting.{with_name, cells_count, gate_count, part_of, count_at, part_count, item_count, IsPart, AreCounts}
+use Rattle.elab_count.specs.Counting.{with_name, cells_count, gate_count, count_at, part_count, item_count, IsPart, AreCounts}
 use Rattle.elab_unfold.specs.Places.{NetRow, rows_width, net_from}
 use Rattle.elab_unfold.specs.Shapes.{IsDead}
 use Rattle.elab_unfold.specs.Parts.{IsWithin}

@@ -3,6 +3,7 @@ use Rattle.std.proofs.Common.{◌≡◌, ℕ, suc, ◌+◌, ◌≤◌, Bool, tru
 use Rattle.std.specs.Option.{option_map, option_map_or, option_and_then}
 use Rattle.std.proofs.lemmas.Option.{slice_get-map, slice_get_within}
 use Rattle.net_core.proofs.PartsLemmas.{filter_some}
+use Rattle.ila_base.specs.declared.limits.TheConstants.{NETS}
 use Rattle.vlog_parse.specs.declared.tree.Module.{Module}
 use Rattle.vlog_parse.specs.declared.tree.Item.{Item}
 use Rattle.vlog_parse.specs.declared.tree.Item.TheVariants as items
@@ -13,10 +14,11 @@ use Rattle.vlog_check.specs.Scope.{cell_first, module_of, module_number}
 use Rattle.vlog_check.specs.Checked.{Contains, IsChecked}
 use Rattle.elab_design.proofs.SoundLaws.{sound_design}
 use Rattle.elab_design.proofs.ExistLaws.{module_there}
-use Rattle.elab_scope.specs.declared.amounts.Count.{Count}
+use Rattle.elab_scope.specs.Modules.{part_of}
+use Rattle.elab_count.specs.declared.amounts.Count.{Count}
 use Rattle.elab_scope.specs.declared.numbers.Part.{Part}
 use Rattle.elab_scope.specs.declared.numbers.Part.TheVariants as parts
-use Rattle.elab_scope.specs.Counting.{all_together, with_name, cells_count, part_of, count_at, part_count, item_count, capped, module_count, IsPart, AreCounts}
+use Rattle.elab_count.specs.Counting.{all_together, with_name, cells_count, count_at, part_count, item_count, capped, module_count, IsPart, AreCounts}
 use Rattle.elab_unfold.specs.declared.shape.Own.TheVariants as owns
 use Rattle.elab_unfold.specs.declared.shape.Step.{Step}
 use Rattle.elab_unfold.specs.declared.shape.Step.TheVariants as steps
@@ -172,7 +174,7 @@ module _ (plan : Plan) (table : List (Option Count)) (checked : IsChecked plan.t
       let kept = kept_shape n m.0 (entry n m.0 part m.1) m.1 (has n m.0 part m.1) in
       record { itself = m.0; shape = kept.0; at = m.1; shape_at = kept.1; right = shape_is n m.0 part m.1 kept.0 kept.2 }
 
-  pub top_size : shape_size plan plan.top ≤ 1048576
+  pub top_size : shape_size plan plan.top ≤ NETS
   top_size =
       let m = part_at plan.top (inl refl) in
       let size = (entry_size plan.top (entry plan.top m.0 (inl refl) m.1) (has plan.top m.0 (inl refl) m.1)).0 in

@@ -17,7 +17,7 @@ use Rattle.vlog_parse.specs.declared.tree.Item.TheVariants as items
 use Rattle.vlog_check.specs.declared.names.Port.{Port}
 use Rattle.vlog_check.specs.Scope.{value_of, directed, range_width}
 use Rattle.vlog_check.proofs.LeastLaws.{at_index}
-use Rattle.elab_scope.specs.declared.amounts.Count.{Count}
+use Rattle.elab_count.specs.declared.amounts.Count.{Count}
 use Rattle.elab_scope.specs.Nets.{rows_seen}
 use Rattle.elab_unfold.specs.declared.places.Net.{Net}
 use Rattle.elab_unfold.specs.declared.shape.Step.{Step}

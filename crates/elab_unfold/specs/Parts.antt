@@ -1,10 +1,11 @@
 -- The ports and the clock of a design unfolded, and the limits of its counts.
 use Rattle.std.specs.Prelude.{ℕ, ◌+◌, ◌≤◌, List, [], ◌∷◌, Option, Some, None, if◌then◌else◌}
 use Rattle.std.specs.Str.{bytes_eq}
+use Rattle.ila_base.specs.declared.limits.TheConstants.{DEPTH, NETS}
 use Rattle.net_core.specs.declared.parts.NetId.{NetId}
 use Rattle.net_core.specs.declared.parts.Port.{Port}
 use Rattle.elab_design.specs.Raw.{net_id}
-use Rattle.elab_scope.specs.declared.amounts.Count.{Count}
+use Rattle.elab_count.specs.declared.amounts.Count.{Count}
 use Rattle.elab_unfold.specs.declared.places.Net.{Net}
 use Rattle.elab_unfold.specs.declared.shape.PortNet.{PortNet}
 
@@ -24,5 +25,5 @@ clock_of (port ∷ ports) name = if bytes_eq port.name.now name then first_bit p
 
 -- a count's net bits and depth are within the limits
 pub record IsWithin (c : Count) : Type 0 where
-  pub nets : c.nets ≤ 1048576
-  pub depth : c.depth ≤ 256
+  pub nets : c.nets ≤ NETS
+  pub depth : c.depth ≤ DEPTH

@@ -15,7 +15,7 @@ use Rattle.elab_design.specs.Design.{Path, Design}
 use Rattle.elab_design.specs.DesignCells.{DesignCell, parameter, init_of}
 use Rattle.elab_design.specs.Order.{DesignGroup, InnerGroups, Unfolds}
 use Rattle.elab_scope.specs.Nets.{named_nets}
-use Rattle.elab_scope.specs.Counting.{IsPart}
+use Rattle.elab_count.specs.Counting.{IsPart}
 use Rattle.elab_unfold.specs.declared.places.Net.{Net}
 use Rattle.elab_unfold.specs.declared.shape.Own.{Own}
 use Rattle.elab_unfold.specs.declared.shape.Own.TheVariants as owns

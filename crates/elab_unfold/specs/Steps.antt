@@ -6,10 +6,11 @@ use Rattle.vlog_parse.specs.declared.tree.Tree.{Tree}
 use Rattle.vlog_parse.specs.declared.tree.Module.{Module}
 use Rattle.vlog_parse.specs.declared.tree.Item.{Item}
 use Rattle.vlog_parse.specs.declared.tree.Item.TheVariants as items
-use Rattle.elab_scope.specs.declared.amounts.Count.{Count}
+use Rattle.elab_scope.specs.Modules.{part_of}
+use Rattle.elab_count.specs.declared.amounts.Count.{Count}
 use Rattle.elab_scope.specs.declared.numbers.Part.{Part}
 use Rattle.elab_scope.specs.declared.numbers.Part.TheVariants as parts
-use Rattle.elab_scope.specs.Counting.{count_at, part_of}
+use Rattle.elab_count.specs.Counting.{count_at}
 use Rattle.elab_scope.specs.Nets.{named_nets}
 use Rattle.elab_unfold.specs.declared.shape.Own.TheVariants as owns
 use Rattle.elab_unfold.specs.declared.shape.Step.{Step}

@@ -2,7 +2,7 @@ ghost use Rattle.std.specs.Prelude.{◌≡◌, ℕ, ◌+◌, ◌<◌, ◌^◌, �
 ghost use Rattle.std.specs.Option.{option_map};
 ghost use Rattle.vlog_parse.specs.declared.tree.Module.{Module as ModuleOf};
 ghost use Rattle.vlog_parse.specs.ReadTree.{connected_exprs};
-ghost use Rattle.elab_scope.specs.Counting.{IsPart};
+ghost use Rattle.elab_count.specs.Counting.{IsPart};
 ghost use Rattle.elab_design.specs.Design.{Path, Bit};
 ghost use Rattle.elab_design.specs.DesignCells as design;
 ghost use Rattle.elab_design.specs.Order.{own_cells, instance_links};

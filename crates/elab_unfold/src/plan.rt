@@ -2,7 +2,7 @@ ghost use Rattle.std.specs.Prelude.{◌≡◌, ℕ, List, [], ◌∷◌, ◌++�
 ghost use Rattle.vlog_parse.specs.declared.tree.Module.{Module as ModuleOf};
 ghost use Rattle.vlog_parse.specs.declared.tree.Item.{Item as ItemOf};
 ghost use Rattle.vlog_check.specs.Scope as look;
-ghost use Rattle.elab_scope.specs.declared.amounts.Count.{Count as CountOf};
+ghost use Rattle.elab_count.specs.declared.amounts.Count.{Count as CountOf};
 ghost use Rattle.elab_scope.specs.Modules.{AreNumbered};
 ghost use Rattle.elab_scope.specs.Nets.{AreNets, AreNetsOfAll, named_nets};
 ghost use Rattle.elab_unfold.specs.Places.{ArePlaces, rows_width};
@@ -12,7 +12,8 @@ ghost use Rattle.elab_unfold.specs.Steps.{IsReadShape, AreShapes, directions_of}
 use crate::places::{Places, place_nets};
 use crate::shape::{PortNet, Shape};
 use crate::steps::read_steps;
-use elab_scope::{Count, Modules, Nets};
+use elab_count::Count;
+use elab_scope::{Modules, Nets};
 use ila_base::NoMemory;
 use std::alloc::Global;
 use vlog_check::Table;

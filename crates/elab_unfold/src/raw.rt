@@ -1,8 +1,9 @@
 //! The raw netlist of a design.
-ghost use Rattle.std.specs.Prelude.{◌≡◌, ◌≤◌, length, Some, IfOk};
+ghost use Rattle.std.specs.Prelude.{◌≡◌, ◌≤◌, ◌<◌, ◌^◌, length, Some, IfOk};
+ghost use Rattle.ila_base.specs.declared.limits.TheConstants.{NETS};
 ghost use Rattle.vlog_check.specs.Checked.{IsChecked};
 ghost use Rattle.vlog_check.specs.Scope.{module_number};
-ghost use Rattle.elab_scope.specs.Counting.{AreCounts, count_at};
+ghost use Rattle.elab_count.specs.Counting.{AreCounts, count_at};
 ghost use Rattle.elab_scope.specs.Nets.{AreNetsOfAll};
 ghost use Rattle.elab_design.specs.Limits.{HasClock};
 ghost use Rattle.elab_design.specs.Raw.{IsRawOf};
@@ -14,7 +15,8 @@ use crate::read_plan::read_plan;
 use crate::shape::{Plan, PortNet};
 use crate::state::State;
 use crate::whole::unfold_plan;
-use elab_scope::{Counts, Nets};
+use elab_count::Counts;
+use elab_scope::Nets;
 use flat_settle::Raw;
 use ila_base::{Items, NoMemory};
 use net_core::{NetId, Port};
@@ -23,7 +25,7 @@ use vlog_parse::Tree;
 
 // The ports of a module: the first groups are those of the names of its header.
 fn ports_of(alloc: Global, ports: &[PortNet]) -> Result<Items<Port>, NoMemory>
-    requires { length ports.now ≤ 4294967295 }
+    requires { length ports.now < 2 ^ 32 }
     ensures { IfOk result (λ out. out ≡ ports_of 0 ports.now) }
 {
     let mut out = Items::new(alloc);
@@ -54,7 +56,7 @@ fn clock_of(ports: &[PortNet], name: &[u8]) -> NetId
 // The raw netlist of a plan.
 fn raw_of(alloc: Global, plan: &Plan) -> Result<Raw, NoMemory>
     requires plan { IsPlan plan.now }
-    requires few { shape_size plan.now plan.now.top ≤ 1048576 }
+    requires few { shape_size plan.now plan.now.top ≤ NETS }
     requires checked { IsChecked plan.now.tree.now plan.now.name.now }
     requires clock { HasClock (design_of plan.now) }
     requires top { module_number plan.now.tree.now plan.now.name.now ≡ Some plan.now.top }

@@ -1,15 +1,17 @@
 //! What is kept of the modules of a checked hierarchy while it is unfolded.
 ghost use Rattle.std.specs.Prelude.{◌≡◌, ◌≤◌, Some, IfOk};
+ghost use Rattle.ila_base.specs.declared.limits.TheConstants.{NETS};
 ghost use Rattle.vlog_check.specs.Checked.{IsChecked};
 ghost use Rattle.vlog_check.specs.Scope.{module_number};
-ghost use Rattle.elab_scope.specs.Counting.{AreCounts, count_at};
+ghost use Rattle.elab_count.specs.Counting.{AreCounts, count_at};
 ghost use Rattle.elab_scope.specs.Nets.{AreNetsOfAll};
 ghost use Rattle.elab_unfold.specs.Shapes.{IsPlan, shape_size};
 ghost use Rattle.elab_unfold.specs.Parts.{IsWithin};
 
 use crate::plan::read_shapes;
 use crate::shape::Plan;
-use elab_scope::{Counts, Nets, read_modules};
+use elab_count::Counts;
+use elab_scope::{Nets, read_modules};
 use ila_base::NoMemory;
 use std::alloc::Global;
 use vlog_parse::Tree;
@@ -30,7 +32,7 @@ pub fn read_plan<'a>(
     requires counts { AreCounts tree.now top counts.now.table.items }
     requires few { IsWithin (count_at counts.now.table.items top) }
     ensures plan { IfOk result IsPlan }
-    ensures size { IfOk result (λ plan. shape_size plan plan.top ≤ 1048576) }
+    ensures size { IfOk result (λ plan. shape_size plan plan.top ≤ NETS) }
     ensures tree { IfOk result (λ plan. plan.tree.now ≡ tree.now) }
     ensures name { IfOk result (λ plan. plan.name.now ≡ name.now) }
     ensures clock { IfOk result (λ plan. plan.clock.now ≡ clock.now) }

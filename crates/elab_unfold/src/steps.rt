@@ -1,12 +1,13 @@
 ghost use Rattle.std.specs.Prelude.{◌≡◌, List, [], ◌∷◌, ◌++◌, false, IfOk, OnOk, MatchOption};
-ghost use Rattle.elab_scope.specs.Counting.{count_at};
+ghost use Rattle.elab_count.specs.Counting.{count_at};
 ghost use Rattle.elab_scope.specs.Modules.{AreNumbered};
 ghost use Rattle.vlog_parse.specs.declared.tree.Item.{Item as ItemOf};
 ghost use Rattle.vlog_parse.specs.declared.tree.Item.TheVariants as items;
 ghost use Rattle.elab_unfold.specs.Steps.{has_some, is_live, IsStepOf, AreSteps};
 
 use crate::shape::{Own, Step};
-use elab_scope::{Count, Modules, Part, part_of};
+use elab_count::Count;
+use elab_scope::{Modules, Part, part_of};
 use ila_base::NoMemory;
 use std::alloc::Global;
 use vlog_parse::{Inst, Item, Module};

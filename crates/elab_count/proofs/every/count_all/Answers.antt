@@ -1,6 +1,6 @@
 use Rattle.std.proofs.Common.{rules, ◌≡◌, length, ap, subst, arith}
 use Rattle.vlog_parse.specs.declared.tree.Tree.{Tree}
-use Rattle.elab_scope.specs.Counting.{AreCounts}
+use Rattle.elab_count.specs.Counting.{AreCounts}
 use Rattle.elab_count.specs.Instances.{AreInOrder}
 use Rattle.elab_count.specs.Progress.{AreCountedTo}
 use Rattle.elab_count.proofs.InstanceLaws.{module_low}

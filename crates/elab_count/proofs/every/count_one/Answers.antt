@@ -1,7 +1,7 @@
 use Rattle.std.proofs.Common.{rules, ◌≡◌, true, Some, inr, length, arith, refl, ap, ◌∙◌}
 use Rattle.std.specs.List.{slice_set}
 use Rattle.vlog_check.proofs.LeastLaws.{at_index}
-use Rattle.elab_scope.specs.Counting.{capped, module_count}
+use Rattle.elab_count.specs.Counting.{capped, module_count}
 use Rattle.elab_count.proofs.every.count_one.Goals as goal
 
 pub count_module-count-requires-clause-nets : goal.count_module-count-requires-clause-nets

@@ -1,5 +1,5 @@
 use Rattle.std.proofs.Common.{length, ap, ◌∙◌}
-use Rattle.elab_scope.specs.Counting.{capped, links_count, conns_width, behind, count_at}
+use Rattle.elab_count.specs.Counting.{capped, links_count, conns_width, behind, count_at}
 use Rattle.elab_count.proofs.AmountLaws.{at_capped}
 use Rattle.elab_count.proofs.items.count_inner.Goals as goal
 

@@ -1,5 +1,5 @@
 use Rattle.std.proofs.Common.{map, ap, ◌∙◌}
-use Rattle.elab_scope.specs.Counting.{capped, all_together, net_count, item_count}
+use Rattle.elab_count.specs.Counting.{capped, all_together, net_count, item_count}
 use Rattle.elab_scope.specs.Nets.{named_nets}
 use Rattle.elab_count.proofs.AmountLaws.{one_more_behind}
 use Rattle.elab_count.proofs.items.count_module.Goals as goal

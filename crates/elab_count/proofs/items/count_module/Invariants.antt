@@ -1,5 +1,5 @@
 use Rattle.std.proofs.Common.{◌≡◌, take, map}
-use Rattle.elab_scope.specs.Counting.{capped, together, all_together, net_count, item_count}
+use Rattle.elab_count.specs.Counting.{capped, together, all_together, net_count, item_count}
 use Rattle.elab_scope.specs.Nets.{named_nets}
 use Rattle.elab_count.proofs.items.count_module.Given as goal
 

@@ -1,7 +1,7 @@
 use Rattle.std.proofs.Common.{ℕ, List, [], length, ◌≤◌, Option, None, get_or, ap, ◌∙◌, arith}
 use Rattle.std.specs.Borrow.{Bor}
 use Rattle.vlog_parse.specs.declared.tree.Range.{Range}
-use Rattle.elab_scope.specs.Counting.{capped}
+use Rattle.elab_count.specs.Counting.{capped}
 use Rattle.elab_count.proofs.AmountLaws.{row_count, one_more, all_nets, read_again}
 use Rattle.elab_count.proofs.items.count_nets.Goals as goal
 

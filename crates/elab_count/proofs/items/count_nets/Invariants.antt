@@ -1,5 +1,5 @@
 use Rattle.std.proofs.Common.{◌≡◌, take, map}
-use Rattle.elab_scope.specs.Counting.{capped, all_together}
+use Rattle.elab_count.specs.Counting.{capped, all_together}
 use Rattle.elab_count.proofs.AmountLaws.{row_count}
 use Rattle.elab_count.proofs.items.count_nets.Given as goal
 

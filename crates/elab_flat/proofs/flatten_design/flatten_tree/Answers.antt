@@ -2,7 +2,7 @@ use Rattle.std.proofs.Common.{length, slice_get, None, ap, subst, ◌∙◌, ari
 use Rattle.std.specs.Option.{option_and_then}
 use Rattle.elab_design.specs.Design.{Design}
 use Rattle.elab_unfold.specs.Parts.{IsWithin}
-use Rattle.elab_amounts.specs.Amounts.{count_of}
+use Rattle.elab_count.specs.Counting.{count_of}
 use Rattle.net_core.specs.Netlist.{parts_of}
 use Rattle.flat_settle.specs.Refusals.{Settles}
 use Rattle.ila_base.specs.declared.fault.NetFault.{NetFault}

@@ -1,7 +1,7 @@
 use Rattle.std.proofs.Common.{◌≡◌, ◌<◌, ◌^◌, Option, Some, None, IfSome, length, slice_get, get_or, refl, sym, ap, ◌∙◌, arith}
 use Rattle.std.proofs.lemmas.Option.{slice_get-get_or}
 use Rattle.vlog_check.proofs.LeastLaws.{at_index}
-use Rattle.elab_scope.specs.declared.amounts.Count.{Count}
+use Rattle.elab_count.specs.declared.amounts.Count.{Count}
 use Rattle.elab_scope.specs.Nets.{named_nets}
 use Rattle.elab_unfold.specs.Places.{rows_width}
 use Rattle.elab_unfold.proofs.TableLaws.{shapes_step}

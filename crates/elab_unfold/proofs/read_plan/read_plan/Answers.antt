@@ -1,6 +1,6 @@
 use Rattle.std.proofs.Common.{◌∙◌, List, Option, length, slice_get, ap, sym, subst}
 use Rattle.vlog_parse.specs.declared.tree.Tree.{Tree}
-use Rattle.elab_scope.specs.declared.amounts.Count.{Count}
+use Rattle.elab_count.specs.declared.amounts.Count.{Count}
 use Rattle.elab_unfold.specs.Steps.{AreShapes}
 use Rattle.elab_unfold.proofs.CountLaws.{own_room}
 use Rattle.elab_unfold.proofs.PlanLaws.{plan_is, top_size}

@@ -31,15 +31,15 @@ use Rattle.elab_design.proofs.CheckLaws.{within_clean}
 use Rattle.elab_design.proofs.WidthLaws.{indices_length}
 use Rattle.elab_design.proofs.OneLaws.{one_order}
 use Rattle.elab_design.proofs.ExistLaws.{InnerPaths, no_item, other_item, instance, HasWhole, HasTop, has_top, below_more, way_at, path_leads}
-use Rattle.elab_scope.specs.declared.amounts.Count.{Count}
+use Rattle.elab_scope.specs.Modules.{part_first, part_of}
+use Rattle.elab_count.specs.declared.amounts.Count.{Count}
 use Rattle.elab_scope.specs.declared.numbers.Part.TheVariants as parts
 use Rattle.elab_scope.specs.Nets.{named_nets, nets_named}
-use Rattle.elab_scope.specs.Counting.{nothing, together, all_together, capped, behind, net_count, links_count, conns_width, part_first, part_of, count_at, part_count, item_count, module_count, IsPart, AreCounts}
-use Rattle.elab_amounts.specs.Amounts.{count_of}
-use Rattle.elab_amounts.proofs.CapLaws.{Same, same_is, same_capped, same_together, same_behind, same_one, same_both, same_turned}
-use Rattle.elab_amounts.proofs.CountedLaws.{front, flat_length, longest, IsCounted, counted_none, counted_both, counted_behind}
-use Rattle.elab_amounts.proofs.ItemLaws.{assign_counted, gate_counted, leaf_counted}
-use Rattle.elab_amounts.proofs.PortSumLaws.{instance_counted}
+use Rattle.elab_count.specs.Counting.{nothing, together, all_together, capped, behind, net_count, links_count, conns_width, count_at, part_count, item_count, module_count, IsPart, AreCounts, count_of}
+use Rattle.elab_count.proofs.CapLaws.{Same, same_is, same_capped, same_together, same_behind, same_one, same_both, same_turned}
+use Rattle.elab_count.proofs.CountedLaws.{front, flat_length, longest, IsCounted, counted_none, counted_both, counted_behind}
+use Rattle.elab_count.proofs.ItemLaws.{assign_counted, gate_counted, leaf_counted}
+use Rattle.elab_count.proofs.PortSumLaws.{instance_counted}
 
 -- the cells, groups and paths of the items of a module at a path, by one walk
 pub data Wholes (d : Design) : Module → Path → List Item → List DesignCell → List DesignGroup → List Path → Type 0 where

@@ -29,8 +29,8 @@ use Rattle.elab_design.proofs.WidthLaws.{sources_length, no_constant}
 use Rattle.elab_design.proofs.CheckLaws.{unless_found, width_unless, within_clean, terminal_width, two_terminals}
 use Rattle.elab_design.specs.Raw.{net_id, pin}
 use Rattle.elab_design.proofs.LeafLaws.{ins_length, outs_length, clock_there}
-use Rattle.elab_scope.specs.Counting.{nothing, together, with_name, cells_count, links_count, gate_count, leaf_pins, leaf_count}
-use Rattle.elab_amounts.proofs.CountedLaws.{front, flat_length, IsCounted, counted_none, counted_both}
+use Rattle.elab_count.specs.Counting.{nothing, together, with_name, cells_count, links_count, gate_count, leaf_pins, leaf_count}
+use Rattle.elab_count.proofs.CountedLaws.{front, flat_length, IsCounted, counted_none, counted_both}
 
 -- Links
 

@@ -1,6 +1,8 @@
 -- What the modules of a hierarchy have with all that is below them, module by module.
 use Rattle.std.specs.Prelude.{◌≡◌, ℕ, ◌+◌, ◌*◌, max, codes, List, [], ◌∷◌, map, length, slice_get, sum_by, Option, Some, None, ◌⊎◌}
 use Rattle.std.specs.Option.{option_map_or}
+use Rattle.ila_base.specs.declared.refusal.LimitKind.{LimitKind}
+use Rattle.ila_base.specs.declared.refusal.LimitKind.TheVariants.{Depth, Cells, Pins, Nets, AllNames}
 use Rattle.vlog_parse.specs.declared.tree.Tree.{Tree}
 use Rattle.vlog_parse.specs.declared.tree.Module.{Module}
 use Rattle.vlog_parse.specs.declared.tree.Range.{Range}
@@ -14,13 +16,14 @@ use Rattle.vlog_check.specs.declared.primitive.Primitive.{Primitive}
 use Rattle.vlog_check.specs.Cells.{pins}
 use Rattle.vlog_check.specs.CellRows.{bits_with}
 use Rattle.vlog_check.specs.Checked.{IsBelow}
-use Rattle.vlog_check.specs.Scope.{range_width, width_of, module_number, cell_of}
+use Rattle.vlog_check.specs.Scope.{range_width, width_of}
 use Rattle.elab_design.specs.DesignCells.{parameter}
 use Rattle.elab_design.specs.Limits.{carried}
-use Rattle.elab_scope.specs.declared.amounts.Count.{Count}
 use Rattle.elab_scope.specs.declared.numbers.Part.{Part}
 use Rattle.elab_scope.specs.declared.numbers.Part.TheVariants as parts
+use Rattle.elab_scope.specs.Modules.{part_of}
 use Rattle.elab_scope.specs.Nets.{named_nets}
+use Rattle.elab_count.specs.declared.amounts.Count.{Count}
 
 -- Counts, which in themselves have no bound
 
@@ -51,6 +54,15 @@ links_count bits = cells_count bits (2 * bits)
 abbrev pub with_name : ℕ → Count → Count
 with_name bytes c = record c { names = c.names + 1; bytes = c.bytes + bytes }
 
+-- the number of a kind that has a limit
+abbrev pub count_of : LimitKind → Count → ℕ
+count_of Depth c = c.depth
+count_of Cells c = c.cells
+count_of Pins c = c.pins
+count_of Nets c = c.nets
+count_of AllNames c = c.bytes
+count_of _ c = 0
+
 -- the count of a module seen from outside an instance with a name of so many bytes: it stands with a slash before each identifier
 abbrev pub behind : ℕ → Count → Count
 behind bytes c = record c { depth = c.depth + 1; bytes = c.bytes + c.names * (bytes + 1) }
@@ -68,15 +80,6 @@ leaf_pins cell inst = sum_by (bits_with (parameter inst.params (codes "AW") 0) (
 
 abbrev pub leaf_count : Primitive → Inst → Count
 leaf_count cell inst = with_name (length inst.name) (cells_count 1 (leaf_pins cell inst))
-
--- what an instance is of, a module by its number
-abbrev pub part_first : Option Primitive → Option ℕ → Option Part
-part_first (Some cell) n = Some (parts.Cell cell)
-part_first None None = None
-part_first None (Some n) = Some (parts.Module n)
-
-abbrev pub part_of : Tree → Inst → Option Part
-part_of tree inst = part_first (cell_of inst.module) (module_number tree inst.module)
 
 -- what the table says of a module
 abbrev pub count_at : List (Option Count) → ℕ → Count

@@ -4,9 +4,8 @@ ghost use Rattle.vlog_check.specs.Checked.{IsChecked};
 ghost use Rattle.vlog_check.specs.Scope.{module_number};
 ghost use Rattle.elab_design.specs.Design.{Design};
 ghost use Rattle.elab_design.specs.Limits.{Counts, carried};
-ghost use Rattle.elab_scope.specs.declared.amounts.Count.{Count};
-ghost use Rattle.elab_scope.specs.Counting.{AreCounts, count_at};
-ghost use Rattle.elab_amounts.specs.Amounts.{count_of};
+ghost use Rattle.elab_count.specs.declared.amounts.Count.{Count};
+ghost use Rattle.elab_count.specs.Counting.{AreCounts, count_at, count_of};
 
 /// A table of the counts of a checked design's modules, each from those of the modules below it, has
 /// at the top the counts of the design, up to the greatest number that is carried.

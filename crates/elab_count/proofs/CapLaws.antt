@@ -1,8 +1,9 @@
 -- Counts that are the same as far as they are carried.
 use Rattle.std.proofs.Common.{◌≡◌, ℕ, ◌+◌, ◌*◌, ◌≤◌, max, ◌⊎◌, inl, inr, refl, ap, sym, ◌∙◌, arith, add-mul, mul_comm}
+use Rattle.ila_base.specs.declared.limits.TheConstants.{GREATEST_COUNT}
 use Rattle.elab_design.specs.Limits.{carried}
-use Rattle.elab_scope.specs.declared.amounts.Count.{Count}
-use Rattle.elab_scope.specs.Counting.{capped, together, behind}
+use Rattle.elab_count.specs.declared.amounts.Count.{Count}
+use Rattle.elab_count.specs.Counting.{capped, together, behind}
 
 pub carried_twice : (n : ℕ) → carried (carried n) ≡ carried n
 carried_twice n = grind arith
@@ -13,13 +14,13 @@ carried_plus a b c e one other = grind arith
 pub carried_max : (a b c e : ℕ) → carried a ≡ carried c → carried b ≡ carried e → carried (max a b) ≡ carried (max c e)
 carried_max a b c e one other = grind arith
 
-same_or_large : (a c : ℕ) → carried a ≡ carried c → (a ≡ c) ⊎ ((1000000000000 ≤ a) × (1000000000000 ≤ c))
+same_or_large : (a c : ℕ) → carried a ≡ carried c → (a ≡ c) ⊎ ((GREATEST_COUNT ≤ a) × (GREATEST_COUNT ≤ c))
 same_or_large a c same = grind arith
 
 at_least : (a k : ℕ) → a ≤ a * (k + 1)
 at_least a k = omega (arith, mul_comm a (k + 1), add-mul k 1 a)
 
-large : (n : ℕ) → 1000000000000 ≤ n → carried n ≡ 1000000000000
+large : (n : ℕ) → GREATEST_COUNT ≤ n → carried n ≡ GREATEST_COUNT
 large n low = grind arith
 
 pub carried_times : (a c k : ℕ) → carried a ≡ carried c → carried (a * (k + 1)) ≡ carried (c * (k + 1))

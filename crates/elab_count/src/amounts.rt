@@ -1,12 +1,11 @@
 ghost use Rattle.std.specs.Prelude.{◌≡◌, ℕ, ◌+◌, ◌*◌, ◌<◌, ◌^◌};
 ghost use Rattle.elab_design.specs.Limits.{carried};
-ghost use Rattle.elab_scope.specs.Counting as counting;
-ghost use Rattle.elab_scope.specs.declared.amounts.Count.{Count as CountOf};
+ghost use Rattle.elab_count.specs.Counting as counting;
+ghost use Rattle.elab_count.specs.declared.amounts.Count.{Count as CountOf};
 
-/// Above this no count is told apart from it.
-pub const MOST: u64 = 1_000_000_000_000;
+use ila_base::limits::GREATEST_COUNT;
 
-/// What a module has, with all that is below it. Each number counts up to `MOST`.
+/// What a module has, with all that is below it. Each number counts up to `GREATEST_COUNT`.
 #[derive(Clone, Copy, Debug, PartialEq, Eq)]
 pub struct Count {
     /// How many instance names the longest path below the module has.
@@ -25,7 +24,7 @@ pub struct Count {
 fn plus(a: u64, b: u64) -> u64
     ensures { result ≡ carried (a + b) }
 {
-    a.saturating_add(b).min(MOST)
+    a.saturating_add(b).min(GREATEST_COUNT)
 }
 
 impl Count {

@@ -33,9 +33,9 @@ use Rattle.elab_design.proofs.WidthLaws.{sources_length, no_constant, net_length
 use Rattle.elab_design.proofs.CheckLaws.{unless_found, not_both, width_unless, within_clean}
 use Rattle.elab_design.proofs.LeafLaws.{or_none, entry_in}
 use Rattle.elab_design.proofs.SoundLaws.{and_then_some}
-use Rattle.elab_scope.specs.Counting.{nothing, together, links_count, conns_width}
-use Rattle.elab_amounts.proofs.CountedLaws.{IsCounted, counted_none, counted_both}
-use Rattle.elab_amounts.proofs.ItemLaws.{links_counted}
+use Rattle.elab_count.specs.Counting.{nothing, together, links_count, conns_width}
+use Rattle.elab_count.proofs.CountedLaws.{IsCounted, counted_none, counted_both}
+use Rattle.elab_count.proofs.ItemLaws.{links_counted}
 
 -- Sums over names
 

@@ -10,8 +10,8 @@ use Rattle.elab_design.specs.DesignCells.{DesignCell}
 use Rattle.elab_design.specs.Order.{DesignGroup, group_bits}
 use Rattle.elab_design.specs.Names.{flat_name, cell_name, design_identifiers}
 use Rattle.elab_design.specs.Limits.{cell_pins}
-use Rattle.elab_scope.specs.declared.amounts.Count.{Count}
-use Rattle.elab_scope.specs.Counting.{nothing, together, behind}
+use Rattle.elab_count.specs.declared.amounts.Count.{Count}
+use Rattle.elab_count.specs.Counting.{nothing, together, behind}
 
 -- how many bytes stand before a name at a path
 abbrev pub front : Path → ℕ

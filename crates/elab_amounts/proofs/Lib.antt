@@ -1,5 +1,0 @@
-mod CapLaws
-mod CountedLaws
-mod ItemLaws
-mod PortSumLaws
-mod WholeLaws
